@@ -1,5 +1,5 @@
 //! Texts of a file: the bytes that stand for them, and views of them where they stand.
-ghost use Rattle.std.specs.Prelude.{◌≡◌, ◌+◌, ◌<◌, ◌==◌, ◌&&◌, List, drop, length, slice_index, IfOk, IfSome, nat_eq, true, false, None, Contains};
+ghost use Rattle.std.specs.Prelude.{◌≡◌, ◌+◌, ◌<◌, ◌≤◌, ◌==◌, ◌&&◌, List, drop, length, slice_index, IfOk, IfSome, nat_eq, false, None, Contains};
 ghost use Rattle.std.specs.Cmp.Lexicographic.{pointwise};
 ghost use Rattle.def_file_tokens.specs.Texts.{IsInside, EndsPlainly, begins_with_mark, unescaped};
 
@@ -39,7 +39,7 @@ impl Text {
     {
         TextView {
             bytes: &self.bytes,
-            escaped: false,
+            first_mark: self.bytes.len(),
         }
     }
 }
@@ -48,19 +48,19 @@ impl Text {
 #[derive(Drop)]
 pub struct TextView<'a> {
     bytes: &'a [u8],
-    // Whether the bytes are an inside with quotation marks.
-    escaped: bool,
+    // If the bytes are an inside with quotation marks, where the first of them stands, and else how many bytes there are.
+    first_mark: usize,
 }
 
 impl<'a> Model for TextView<'a> {
-    ghost use Rattle.std.specs.Prelude.{ℕ, List};
+    ghost use Rattle.std.specs.Prelude.{ℕ, List, length, nat_lt};
     ghost use Rattle.xg_lex.specs.Viewed.{IsViewed, viewed};
 
     ghost Value = { List ℕ };
 
-    ghost view = { λ t. viewed t.escaped t.bytes.now };
+    ghost view = { λ t. viewed (nat_lt t.first_mark (length t.bytes.now)) t.bytes.now };
 
-    ghost invariant = { λ t. IsViewed t.escaped t.bytes.now };
+    ghost invariant = { λ t. IsViewed (nat_lt t.first_mark (length t.bytes.now)) t.bytes.now };
 }
 
 impl<'a> TextView<'a> {
@@ -72,7 +72,7 @@ impl<'a> TextView<'a> {
     {
         TextView {
             bytes: raw,
-            escaped: has_mark(raw),
+            first_mark: first_mark(raw),
         }
     }
 
@@ -82,7 +82,7 @@ impl<'a> TextView<'a> {
     {
         TextView {
             bytes: self.bytes,
-            escaped: self.escaped,
+            first_mark: self.first_mark,
         }
     }
 
@@ -91,7 +91,7 @@ impl<'a> TextView<'a> {
     pub fn is(&self, bytes: &[u8]) -> bool
         ensures { result ≡ pointwise nat_eq bytes.now self.now }
     {
-        if self.escaped {
+        if self.first_mark < self.bytes.len() {
             return stands_for(self.bytes, bytes);
         }
         bytes == self.bytes
@@ -104,7 +104,7 @@ impl<'a> TextView<'a> {
         // Only a text with a quotation mark doesn't.
         ensures none { result ≡ None → Contains self.now 34 }
     {
-        if self.escaped {
+        if self.first_mark < self.bytes.len() {
             return None;
         }
         Some(self.bytes)
@@ -114,7 +114,7 @@ impl<'a> TextView<'a> {
     pub fn to_text(&self, alloc: Global) -> Result<Text, AllocError>
         ensures { IfOk result (λ text. text ≡ self.now) }
     {
-        if self.escaped {
+        if self.first_mark < self.bytes.len() {
             return unescape(alloc, self.bytes);
         }
         let bytes = self.bytes.to_vec(alloc)?;
@@ -122,18 +122,18 @@ impl<'a> TextView<'a> {
     }
 }
 
-/// Whether there is a quotation mark. Most nodes have no name, and no byte.
+/// Where the first quotation mark stands, and how many bytes there are if none does. Most nodes have no name, and no byte.
 #[inline(always)]
-fn has_mark(raw: &[u8]) -> bool
-    ensures plain { result ≡ false → IsInside raw.now → unescaped raw.now ≡ raw.now }
-    ensures marked { result ≡ true → Contains (unescaped raw.now) 34 }
+fn first_mark(raw: &[u8]) -> usize
+    ensures plain { length raw.now ≤ result → IsInside raw.now → unescaped raw.now ≡ raw.now }
+    ensures marked { result < length raw.now → Contains (unescaped raw.now) 34 }
 {
     if raw.is_empty() {
-        return false;
+        return 0;
     }
     match memchr(b'"', raw) {
-        Some(_) => true,
-        None => false,
+        Some(mark) => mark,
+        None => raw.len(),
     }
 }
 
