@@ -111,39 +111,21 @@ fn play_by_parts<R: Worth>(place: SetPlace, regrets: &[R], sum: u128, play: &mut
     let mut sum_so_far = 0u128;
     let mut given = 0u32;
     for i in 0..place.actions {
-        let part = part_of(regrets, place.first + i);
-        sum_so_far += part;
-        let next = next_given(given, part, sum_so_far, sum);
+        sum_so_far += part_of(regrets, place.first + i);
+        let next = units_of(sum_so_far, sum);
         play.set(place.first + i, next - given);
         given = next;
     }
 }
 
-// What the actions up to one get together; one without a part gets nothing.
-fn next_given(given: u32, part: u128, sum_so_far: u128, sum: u128) -> u32
-    requires some { 1 ≤ sum }
-    requires small { units * sum < past_product }
-    requires within { sum_so_far ≤ sum }
-    requires none { part ≡ 0 → given ≡ units * sum_so_far / sum }
-    ensures { result ≡ units * sum_so_far / sum }
-{
-    if part == 0 {
-        given
-    } else {
-        units_of(sum_so_far, sum)
-    }
-}
-
-// A part's share of all units, rounded down.
+// A part's share of all units, rounded down. Whether there is a part at all can't be foretold, so no branch asks it.
 fn units_of(part: u128, sum: u128) -> u32
     requires some { 1 ≤ sum }
     requires small { units * sum < past_product }
     requires within { part ≤ sum }
     ensures { result ≡ units * part / sum }
 {
-    if part == sum {
-        UNITS
-    } else if sum < PAST_DEALT {
+    if sum < PAST_DEALT {
         (UNITS as u64 * (part as u64) / (sum as u64)) as u32
     } else {
         units_of_large(part, sum)
@@ -158,6 +140,9 @@ fn units_of_large(part: u128, sum: u128) -> u32
     requires within { part ≤ sum }
     ensures { result ≡ units * part / sum }
 {
+    if part == sum {
+        return UNITS;
+    }
     (UNITS as u128 * part / sum) as u32
 }
 
@@ -203,11 +188,10 @@ fn first_of_two(a: u128, b: u128) -> u32
     ensures evenly { a + b ≡ 0 → result ≡ units / 2 }
     ensures within { result ≤ units }
 {
-    if a == 0 {
-        if b == 0 { UNITS / 2 } else { 0 }
-    } else if b == 0 {
-        UNITS
+    let sum = a + b;
+    if sum == 0 {
+        UNITS / 2
     } else {
-        units_of(a, a + b)
+        units_of(a, sum)
     }
 }
