@@ -1,6 +1,6 @@
 //! The close of a round: the regrets that it adds.
-ghost use Rattle.std.specs.Prelude.{◌≡◌, ℕ, ◌+◌, ◌*◌, ◌^◌, ◌<◌, ◌≤◌, ℤ, pos, ◌+ℤ◌, ◌-ℤ◌, ◌*ℤ◌, unsigned_abs, neg_ℤ};
-ghost use Rattle.std.specs.Prelude.{length, map, slice_get, slice_index, FitsSigned, IfSome, IsTrue, Some};
+ghost use Rattle.std.specs.Prelude.{◌≡◌, ℕ, ◌+◌, ◌*◌, ◌^◌, ◌<◌, ◌≤◌, ℤ, pos, ◌+ℤ◌, ◌-ℤ◌, ◌*ℤ◌, unsigned_abs};
+ghost use Rattle.std.specs.Prelude.{length, map, slice_get, slice_index, FitsSigned, IfSome, Some};
 ghost use Rattle.std.specs.Int.{int_wrap};
 ghost use Rattle.def_plan.specs.Form.{player_sets, sequence_count, sequences_of};
 ghost use Rattle.def_round.specs.Play.{GivesAllUnits, regret_of, units};
@@ -48,6 +48,59 @@ pub fn close_round(
     ensures rounds { regrets.new.closed ≡ regrets.old.closed + 1 }
     ensures count { length regrets.new.of_sequences ≡ length regrets.old.of_sequences }
 {
+    close_by_rows(form, player, regrets, play, rows);
+}
+
+/// The same with rows of 64 bits.
+pub fn close_small_round(
+    form: &SeqForm,
+    player: Player,
+    regrets: &mut Regrets,
+    play: &Play,
+    rows: &[i64],
+)
+    requires few_rounds { regrets.old.closed < most_rounds }
+    requires small_rows { nat_sum_over unsigned_abs rows.now ≤ most_round_row }
+    requires all_units { GivesAllUnits play.now (player_sets form.now player) }
+    requires as_regrets { length regrets.old.of_sequences ≡ sequence_count (player_sets form.now player) }
+    requires as_play { length play.now ≡ sequence_count (player_sets form.now player) }
+    requires as_rows { length rows.now ≡ sequence_count (player_sets form.now player) }
+    ensures regrets { regrets.new.of_sequences
+        ≡ regrets_after (own_amount player rows.now) play.now (player_sets form.now player) regrets.old.of_sequences }
+    ensures equations { let sets = player_sets form.now player in
+        IsRound (own_amount player rows.now) play.now sets regrets.old.of_sequences regrets.new.of_sequences }
+    ensures rounds { regrets.new.closed ≡ regrets.old.closed + 1 }
+    ensures count { length regrets.new.of_sequences ≡ length regrets.old.of_sequences }
+{
+    close_by_rows(form, player, regrets, play, rows);
+}
+
+/// Rows that are the leaf sums against a plan close the round by the player's own sums against that plan.
+pub fn leaf_sums_close_the_round()
+    ensures { LeafSumsCloseTheRound }
+{}
+
+// The same with rows of either width.
+fn close_by_rows<A: Worth>(
+    form: &SeqForm,
+    player: Player,
+    regrets: &mut Regrets,
+    play: &Play,
+    rows: &[A],
+)
+    requires few_rounds { regrets.old.closed < most_rounds }
+    requires small_rows { nat_sum_over unsigned_abs (map A.amount rows.now) ≤ most_round_row }
+    requires all_units { GivesAllUnits play.now (player_sets form.now player) }
+    requires as_regrets { length regrets.old.of_sequences ≡ sequence_count (player_sets form.now player) }
+    requires as_play { length play.now ≡ sequence_count (player_sets form.now player) }
+    requires as_rows { length rows.now ≡ sequence_count (player_sets form.now player) }
+    ensures regrets { regrets.new.of_sequences
+        ≡ regrets_after (own_amount player (map A.amount rows.now)) play.now (player_sets form.now player) regrets.old.of_sequences }
+    ensures equations { let sets = player_sets form.now player in
+        IsRound (own_amount player (map A.amount rows.now)) play.now sets regrets.old.of_sequences regrets.new.of_sequences }
+    ensures rounds { regrets.new.closed ≡ regrets.old.closed + 1 }
+    ensures count { length regrets.new.of_sequences ≡ length regrets.old.of_sequences }
+{
     form.facts();
     let most = close_rows(
         form,
@@ -64,25 +117,20 @@ pub fn close_round(
     regrets.rounds += 1;
 }
 
-/// Rows that are the leaf sums against a plan close the round by the player's own sums against that plan.
-pub fn leaf_sums_close_the_round()
-    ensures { LeafSumsCloseTheRound }
-{}
-
 // Adds a round's regrets, with worths and regrets of 64 bits where there is room for them in a word. The answer is the
 // greatest size that a small regret can have now, if the regrets are small ones.
-fn close_rows(
+fn close_rows<A: Worth>(
     form: &SeqForm,
     player: Player,
     play: &[u32],
-    rows: &[i128],
+    rows: &[A],
     most: Option<u64>,
     small_worths: &mut [i64],
     worths: &mut [i128],
     small_regrets: &mut [i64],
     regrets: &mut [i128],
 ) -> Option<u64>
-    requires small_rows { nat_sum_over unsigned_abs rows.now ≤ most_round_row }
+    requires small_rows { nat_sum_over unsigned_abs (map A.amount rows.now) ≤ most_round_row }
     requires as_rows { length rows.now ≡ sequence_count (player_sets form.now player) }
     requires as_small_worths { length small_worths.old ≡ sequence_count (player_sets form.now player) }
     requires as_worths { length worths.old ≡ sequence_count (player_sets form.now player) }
@@ -100,7 +148,7 @@ fn close_rows(
     ensures count { length regrets.new ≡ length regrets.old }
     ensures small { AreWithin result small_regrets.new }
     ensures regrets { kept_regrets result small_regrets.new regrets.new
-        ≡ regrets_after (own_amount player rows.now) play.now (player_sets form.now player)
+        ≡ regrets_after (own_amount player (map A.amount rows.now)) play.now (player_sets form.now player)
         (kept_regrets most small_regrets.old regrets.old) }
 {
     form.facts();
@@ -159,31 +207,31 @@ fn copy_wide(small_regrets: &[i64], regrets: &mut [i128])
 }
 
 // Adds a round's regrets of all bits, with worths of 64 bits where the rows were taken into these.
-fn close_wide(
+fn close_wide<A: Worth>(
     form: &SeqForm,
     player: Player,
     play: &[u32],
-    rows: &[i128],
+    rows: &[A],
     sizes: Option<u64>,
     small_worths: &mut [i64],
     worths: &mut [i128],
     regrets: &mut [i128],
 )
-    requires small_rows { nat_sum_over unsigned_abs rows.now ≤ most_round_row }
+    requires small_rows { nat_sum_over unsigned_abs (map A.amount rows.now) ≤ most_round_row }
     requires as_rows { length rows.now ≡ sequence_count (player_sets form.now player) }
     requires as_small_worths { length small_worths.old ≡ sequence_count (player_sets form.now player) }
     requires as_worths { length worths.old ≡ sequence_count (player_sets form.now player) }
     requires as_regrets { length regrets.old ≡ sequence_count (player_sets form.now player) }
     requires as_play { length play.now ≡ sequence_count (player_sets form.now player) }
     requires all_units { GivesAllUnits play.now (player_sets form.now player) }
-    requires taken { IfSome sizes (AreTaken player rows.now small_worths.old) }
+    requires taken { IfSome sizes (AreTaken player (map A.amount rows.now) small_worths.old) }
     requires room { (s : ℕ) → unsigned_abs (regret_of regrets.old s) < past_product }
     requires none_of_empty { regret_of regrets.old 0 ≡ pos 0 }
     ensures small_worths_count { length small_worths.new ≡ length small_worths.old }
     ensures worths_count { length worths.new ≡ length worths.old }
     ensures count { length regrets.new ≡ length regrets.old }
     ensures regrets { regrets.new
-        ≡ regrets_after (own_amount player rows.now) play.now (player_sets form.now player) regrets.old }
+        ≡ regrets_after (own_amount player (map A.amount rows.now)) play.now (player_sets form.now player) regrets.old }
 {
     match sizes {
         Some(_) => close_sets(form, player, play, small_worths, regrets),
@@ -196,14 +244,14 @@ fn close_wide(
 
 // Takes the rows as they are to the player, if all of them together have room in 64 bits. Their sizes together are the
 // answer.
-fn take_small_rows(player: Player, rows: &[i128], worths: &mut [i64]) -> Option<u64>
+fn take_small_rows<A: Worth>(player: Player, rows: &[A], worths: &mut [i64]) -> Option<u64>
     requires as_many { length rows.now ≡ length worths.old }
     ensures count { length worths.new ≡ length worths.old }
-    ensures taken { IfSome result (AreTaken player rows.now worths.new) }
+    ensures taken { IfSome result (AreTaken player (map A.amount rows.now) worths.new) }
 {
     let mut room = MOST_SMALL_ROWS;
     for i in 0..rows.len() {
-        let Some(row) = small_row(rows[i], room) else {
+        let Some(row) = small_row(worth_at(rows, i), room) else {
             return None;
         };
         room -= row.unsigned_abs();
@@ -235,26 +283,24 @@ fn own_row(player: Player, row: i64) -> i64
 }
 
 // Takes the rows as they are to the player.
-fn take_rows(player: Player, rows: &[i128], worths: &mut [i128])
+fn take_rows<A: Worth>(player: Player, rows: &[A], worths: &mut [i128])
     requires as_many { length rows.now ≡ length worths.old }
-    requires small { nat_sum_over unsigned_abs rows.now ≤ most_round_row }
+    requires small { nat_sum_over unsigned_abs (map A.amount rows.now) ≤ most_round_row }
     ensures count { length worths.new ≡ length worths.old }
-    ensures each { (s : ℕ) → amount_of worths.new s ≡ own_amount player rows.now s }
+    ensures each { (s : ℕ) → amount_of worths.new s ≡ own_amount player (map A.amount rows.now) s }
 {
-    match player {
-        Player::One => worths.copy_from_slice(rows),
-        Player::Two => negate_into(rows, worths),
+    for i in 0..rows.len() {
+        worths[i] = own_wide_row(player, worth_at(rows, i));
     }
 }
 
-fn negate_into(rows: &[i128], worths: &mut [i128])
-    requires as_many { length rows.now ≡ length worths.old }
-    requires small { nat_sum_over unsigned_abs rows.now ≤ most_round_row }
-    ensures count { length worths.new ≡ length worths.old }
-    ensures each { (s : ℕ) → s < length rows.now → amount_of worths.new s ≡ neg_ℤ (amount_of rows.now s) }
+fn own_wide_row(player: Player, amount: i128) -> i128
+    requires { unsigned_abs amount < 2 ^ 127 }
+    ensures { result ≡ utility player amount }
 {
-    for i in 0..rows.len() {
-        worths[i] = negative(rows[i]);
+    match player {
+        Player::One => amount,
+        Player::Two => -amount,
     }
 }
 
@@ -423,13 +469,6 @@ pub(crate) fn place_at(places: &[SetPlace], set: usize) -> SetPlace
     ensures { slice_get (map placed_of_row places.now) set ≡ Some (placed_of_row result) }
 {
     places[set]
-}
-
-fn negative(a: i128) -> i128
-    requires { unsigned_abs a < 2 ^ 127 }
-    ensures { result ≡ neg_ℤ a }
-{
-    -a
 }
 
 fn product(units: u32, worth: i128) -> i128

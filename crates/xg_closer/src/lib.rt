@@ -7,7 +7,7 @@ mod playing;
 mod regrets;
 mod worths;
 
-pub use closing::{close_round, leaf_sums_close_the_round};
+pub use closing::{close_round, close_small_round, leaf_sums_close_the_round};
 pub use def_tree::Player;
 pub use playing::play_into;
 pub use regrets::Regrets;

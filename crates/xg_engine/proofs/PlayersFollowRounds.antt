@@ -1,8 +1,8 @@
 -- A player from one round to the next.
-use Rattle.std.proofs.Common.{◌≡◌, ℕ, suc, ◌+◌, ℤ, List, ap, ◌∙◌, subst, sym, arith}
+use Rattle.std.proofs.Common.{◌≡◌, ℕ, suc, ◌+◌, ℤ, List, length, ap, ◌∙◌, subst, sym, arith}
 use Rattle.def_tree.specs.declared.Player.{Player}
 use Rattle.def_tree.specs.declared.Player.TheVariants.{One, Two}
-use Rattle.def_plan.specs.Form.{InformationSet, Leaf, SequenceForm}
+use Rattle.def_plan.specs.Form.{InformationSet, Leaf, SequenceForm, sequence_count}
 use Rattle.def_round.specs.Play.{plan_of_play, play_of}
 use Rattle.def_round.specs.Round.{own_sum, regrets_after}
 use Rattle.def_round.specs.Rounds.{Standing}
@@ -58,6 +58,15 @@ module _ (variant : Variant) (sets : List InformationSet) (root n : ℕ) (regret
     sums_are = kept ∙ played.sums_are;
   }
 
+-- the player has learned from the other player's plan
+pub record HasLearned (variant : Variant) (form : SequenceForm) (player : Player) (sets : List InformationSet)
+    (against : List ℕ) (before after : Learner) : Type 0 where
+  pub room : HasRoomForSequences sets after
+  pub regrets : after.regrets.of_sequences
+      ≡ regrets_kept variant (regrets_after (own_sum player form.leaves against) before.play sets before.regrets.of_sequences)
+  pub closed : after.regrets.closed ≡ before.regrets.closed + 1
+  pub sums : after.sum ≡ before.sum
+
 -- the standing after the next round, by what both players keep of it
 abbrev pub next_standing : Variant → SequenceForm → ℕ → ℕ → Standing
 next_standing variant form root n =
@@ -87,10 +96,29 @@ pub stand_next : (variant : Variant) (form : SequenceForm) (root n : ℕ) (playe
     → let next = next_standing variant form root n in
     StandsWith form.sets_one (n + 1) next.regrets_one next.sum_one players.one
     → StandsWith form.sets_two (n + 1) next.regrets_two next.sum_two players.two
+    → length players.rows.one ≡ sequence_count form.sets_one → length players.rows.two ≡ sequence_count form.sets_two
     → StandAfter variant form root (n + 1) players
-stand_next variant form root n players one two =
+stand_next variant form root n players one two rows_one rows_two =
     let is = is_next variant form root n in
     record {
       one = subst (λ (s : Standing). StandsWith form.sets_one (n + 1) s.regrets_one s.sum_one players.one) is one;
       two = subst (λ (s : Standing). StandsWith form.sets_two (n + 1) s.regrets_two s.sum_two players.two) is two;
+      rows_one = rows_one;
+      rows_two = rows_two;
     }
+
+-- both players have played the round, and then have learned from the rows against each other's plan
+pub both_learned : (variant : Variant) (form : SequenceForm) (root n : ℕ) (before after : Players)
+    → let was = rounds_of variant form root n in
+    HasPlayed variant form.sets_one root n was.regrets_one was.sum_one before.one
+    → HasPlayed variant form.sets_two root n was.regrets_two was.sum_two before.two
+    → HasLearned variant form One form.sets_one before.two.plan before.one after.one
+    → HasLearned variant form Two form.sets_two before.one.plan before.two after.two
+    → length after.rows.one ≡ sequence_count form.sets_one → length after.rows.two ≡ sequence_count form.sets_two
+    → StandAfter variant form root (n + 1) after
+both_learned variant form root n before after played_one played_two one two rows_one rows_two =
+    let was = rounds_of variant form root n in
+    stand_next variant form root n after
+    (has_learned variant form.sets_one root n was.regrets_one was.sum_one One form.leaves before.two.plan _ before.one after.one played_one played_two.plan one.room one.regrets one.closed one.sums)
+    (has_learned variant form.sets_two root n was.regrets_two was.sum_two Two form.leaves before.one.plan _ before.two after.two played_two played_one.plan two.room two.regrets two.closed two.sums)
+    rows_one rows_two

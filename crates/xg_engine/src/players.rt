@@ -1,5 +1,5 @@
 //! Both players from round to round.
-ghost use Rattle.std.specs.Prelude.{◌≡◌, ◌+◌, ◌*◌, ◌^◌, ◌<◌, ◌≤◌, ℕ, List, IfOk, OnOk};
+ghost use Rattle.std.specs.Prelude.{◌≡◌, ◌+◌, ◌*◌, ◌<◌, ◌≤◌, ℕ, List, IfOk, OnOk};
 ghost use Rattle.std.specs.Prelude.{length, pos, replicate, slice_index, unsigned_abs};
 ghost use Rattle.std.specs.Thread.{IsSync};
 ghost use Rattle.def_sums.specs.Limits.{most_root, most_rounds, most_scale, most_round_row};
@@ -21,8 +21,8 @@ use def_plus::Variant;
 use std::alloc::{AllocError, Global};
 use std::sync::Wait;
 use std::thread::Threads;
-use xg_closer::{Regrets, close_round, play_into};
-use xg_jobs::RowMaker;
+use xg_closer::{Regrets, close_round, close_small_round, play_into};
+use xg_jobs::{RowMaker, SmallRows};
 use xg_plan::{Plan, Play, Player, add_times, add_to, from_play};
 use xg_seq::SeqForm;
 
@@ -35,11 +35,12 @@ pub(crate) struct Learner {
     pub(crate) sum: Plan,
 }
 
-/// Both players.
+/// Both players, with room for the rows of a round.
 #[derive(Drop)]
 pub(crate) struct Players {
     pub(crate) one: Learner,
     pub(crate) two: Learner,
+    pub(crate) rows: SmallRows,
 }
 
 impl Learner {
@@ -102,6 +103,26 @@ impl Learner {
         close_round(form, player, &mut self.regrets, &self.play, rows);
         cut_regrets(&mut self.regrets, variant);
     }
+
+    /// The same by rows of 64 bits.
+    fn learn_small(&mut self, form: &SeqForm, player: Player, variant: Variant, rows: &[i64])
+        requires room { HasRoomForSequences (player_sets form.now player) self.old }
+        requires few_rounds { self.old.regrets.closed < most_rounds }
+        requires all_units { GivesAllUnits self.old.play (player_sets form.now player) }
+        requires rows { length rows.now ≡ sequence_count (player_sets form.now player) }
+        requires small { nat_sum_over unsigned_abs rows.now ≤ most_round_row }
+        ensures room { HasRoomForSequences (player_sets form.now player) self.new }
+        ensures regrets { (against : List ℕ) → rows.now ≡ player_rows form.now player against
+            → let sums = own_sum player form.now.leaves against in
+            let sets = player_sets form.now player in
+            self.new.regrets.of_sequences
+            ≡ regrets_kept variant (regrets_after sums self.old.play sets self.old.regrets.of_sequences) }
+        ensures closed { self.new.regrets.closed ≡ self.old.regrets.closed + 1 }
+        ensures sums { self.new.sum ≡ self.old.sum }
+    {
+        close_small_round(form, player, &mut self.regrets, &self.play, rows);
+        cut_regrets(&mut self.regrets, variant);
+    }
 }
 
 impl Players {
@@ -113,6 +134,7 @@ impl Players {
         Ok(Players {
             one: Learner::new(alloc, form, Player::One)?,
             two: Learner::new(alloc, form, Player::Two)?,
+            rows: SmallRows::new(alloc, form)?,
         })
     }
 
@@ -139,6 +161,13 @@ impl Players {
             .plan_round(source.form, Player::One, variant, scale, round);
         self.two
             .plan_round(source.form, Player::Two, variant, scale, round);
+        if source.small_rows(&self.one.plan, &self.two.plan, &mut self.rows) {
+            self.one
+                .learn_small(source.form, Player::One, variant, self.rows.one());
+            self.two
+                .learn_small(source.form, Player::Two, variant, self.rows.two());
+            return Ok(());
+        }
         let rows = source.rows(&self.one.plan, &self.two.plan)?;
         self.one
             .learn(source.form, Player::One, variant, rows.one());

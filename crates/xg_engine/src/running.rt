@@ -1,5 +1,5 @@
 //! A run over all rounds.
-ghost use Rattle.std.specs.Prelude.{◌≡◌, ◌+◌, ◌<◌, ◌≤◌, IfOk, OnOk, length};
+ghost use Rattle.std.specs.Prelude.{◌≡◌, ◌+◌, ◌<◌, IfOk, OnOk, length};
 ghost use Rattle.std.specs.Thread.{IsSync};
 ghost use Rattle.def_reply.specs.Bracket.{evaluated_rounds};
 ghost use Rattle.def_run.specs.Run.{outcome_with};
@@ -134,7 +134,7 @@ fn finish(head: Head, run: Run) -> FinishedRun
     ensures sum_two { result.sum_two ≡ run.players.two.sum }
 {
     let Run { players, evaluator } = run;
-    let Players { one, two } = players;
+    let Players { one, two, .. } = players;
     FinishedRun {
         outcome: outcome_with(head, evaluator.board),
         sum_one: one.sum,

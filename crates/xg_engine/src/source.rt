@@ -1,14 +1,15 @@
 //! Where a run's rows come from.
-ghost use Rattle.std.specs.Prelude.{IfOk};
+ghost use Rattle.std.specs.Prelude.{◌≡◌, IfOk, IsTrue, length};
 ghost use Rattle.std.specs.Thread.{IsSync};
-ghost use Rattle.xg_jobs.specs.Rows.{ArePlainSums};
+ghost use Rattle.def_plan.specs.Form.{sequence_count};
+ghost use Rattle.xg_jobs.specs.Rows.{AreNumbersOf, ArePlainSums};
 ghost use Rattle.xg_jobs.specs.Table.{IsTableOf};
 ghost use Rattle.xg_engine.specs.Players.{IsSmallPlan};
 
 use std::alloc::{AllocError, Global};
 use std::sync::Wait;
 use std::thread::Threads;
-use xg_jobs::{JobTable, RowInput, RowMaker, Rows};
+use xg_jobs::{JobTable, RowInput, RowMaker, Rows, SmallRows};
 use xg_plan::Plan;
 use xg_seq::SeqForm;
 
@@ -32,11 +33,38 @@ impl<'a, Rt: Threads + Wait + Sync, M: RowMaker> RowSource<'a, Rt, M> {
         requires plan_two { IsSmallPlan self.now.form.now.sets_two two.now }
         ensures { IfOk result (λ rows. ArePlainSums self.now.form.now one.now two.now rows) }
     {
-        let input = RowInput {
+        self.maker
+            .rows(self.rt, self.alloc, &self.input(one, two), self.jobs)
+    }
+
+    /// The same in 64 bits, if the maker makes them and they surely have room. Takes no memory.
+    pub(crate) fn small_rows(&self, one: &Plan, two: &Plan, rows: &mut SmallRows) -> bool
+        requires table { IsTableOf self.now.form.now self.now.jobs.now }
+        requires plan_one { IsSmallPlan self.now.form.now.sets_one one.now }
+        requires plan_two { IsSmallPlan self.now.form.now.sets_two two.now }
+        requires rows_one { length rows.old.one ≡ sequence_count self.now.form.now.sets_one }
+        requires rows_two { length rows.old.two ≡ sequence_count self.now.form.now.sets_two }
+        ensures sums { IsTrue result → ArePlainSums self.now.form.now one.now two.now rows.new }
+        ensures count_one { length rows.new.one ≡ length rows.old.one }
+        ensures count_two { length rows.new.two ≡ length rows.old.two }
+    {
+        self.maker
+            .small_rows(&self.input(one, two), self.jobs, rows)
+    }
+
+    // What rows against these plans are made from.
+    fn input<'b>(&'b self, one: &'b Plan, two: &'b Plan) -> RowInput<'b>
+        requires plan_one { IsSmallPlan self.now.form.now.sets_one one.now }
+        requires plan_two { IsSmallPlan self.now.form.now.sets_two two.now }
+        ensures form { result.form.now ≡ self.now.form.now }
+        ensures one { result.one.now ≡ one.now }
+        ensures two { result.two.now ≡ two.now }
+        ensures numbers { AreNumbersOf result.form.now result.one.now result.two.now }
+    {
+        RowInput {
             form: self.form,
             one: one.weights(),
             two: two.weights(),
-        };
-        self.maker.rows(self.rt, self.alloc, &input, self.jobs)
+        }
     }
 }

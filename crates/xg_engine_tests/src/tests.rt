@@ -135,6 +135,37 @@ pub(crate) const ROUNDS_OF_TWICE_HIDDEN: &[WorkedRounds] = &[
     },
 ];
 
+/// Pennies of which one pays twice as much. Their sizes together are 5 times 2^43, so that the sums of a round with the
+/// scale 209,715 surely have room in 64 bits, and those with the next scale don't.
+const HEAVY_PENNIES: &str = r#"EFG 2 R "" { "One" "Two" }
+p "" 1 1 { "" "" } 0
+p "" 2 1 { "" "" } 0
+t "" 1 { 8796093022208, -8796093022208 }
+t "" 2 { -8796093022208, 8796093022208 }
+p "" 2 1 0
+t "" 2
+t "" 3 { 17592186044416, -17592186044416 }
+"#;
+
+const ROUNDS_OF_HEAVY_PENNIES: &[WorkedRounds] = &[
+    WorkedRounds {
+        rounds: 3,
+        every: 3,
+        scale: 209_715,
+        one: &[629_145, 288_354, 340_791],
+        two: &[629_145, 524_287, 104_858],
+        trace: &[(3, 3, -461_240_729_805_520_896, 3, 3_689_336_500_211_679_232)],
+    },
+    WorkedRounds {
+        rounds: 3,
+        every: 3,
+        scale: 209_716,
+        one: &[629_148, 288_359, 340_789],
+        two: &[629_148, 524_290, 104_858],
+        trace: &[(3, 3, -461_179_157_154_365_440, 3, 3_689_362_888_490_745_856)],
+    },
+];
+
 /// The settings, where they are within their limits.
 pub(crate) fn settings_of(rt: &impl Abort, case: &WorkedRounds) -> Settings
     ensures { AreWithinLimits result }
@@ -247,6 +278,11 @@ fn rounds_of_pennies(rt: HostRuntime) -> Result<(), Fail> {
 #[test]
 fn rounds_of_a_hidden_game(rt: HostRuntime) -> Result<(), Fail> {
     play_all(&rt, rt.alloc(), TWICE_HIDDEN, ROUNDS_OF_TWICE_HIDDEN)
+}
+
+#[test]
+fn rounds_at_the_end_of_64_bits(rt: HostRuntime) -> Result<(), Fail> {
+    play_all(&rt, rt.alloc(), HEAVY_PENNIES, ROUNDS_OF_HEAVY_PENNIES)
 }
 
 fn assert_poker(rt: &impl Abort, alloc: Global, cards: u32) -> Result<(), Fail> {

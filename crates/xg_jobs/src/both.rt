@@ -1,5 +1,5 @@
 //! Both players' sums over the leaves, in one pass over the groups of player one.
-ghost use Rattle.std.specs.Prelude.{◌≡◌, ℕ, ◌+◌, ◌*◌, ◌<◌, ◌≤◌, ℤ, pos, ◌+ℤ◌, unsigned_abs, All};
+ghost use Rattle.std.specs.Prelude.{◌≡◌, ℕ, ◌+◌, ◌*◌, ◌<◌, ◌≤◌, ℤ, ◌+ℤ◌, unsigned_abs, All};
 ghost use Rattle.std.specs.Prelude.{length, map, slice_index};
 ghost use Rattle.def_sums.specs.Limits.{past_number};
 ghost use Rattle.def_plan.specs.FormRows.{amount_of};
@@ -15,7 +15,7 @@ pub(crate) fn both_rows<E: GroupEntry, R: Row>(
     entries: &[E],
     one: &[u64],
     two: &[u64],
-    own: &mut [i128],
+    own: &mut [R],
     other: &mut [R],
 )
     ghost most: { ℕ }
@@ -31,7 +31,7 @@ pub(crate) fn both_rows<E: GroupEntry, R: Row>(
     requires small { most < past_number }
     requires room { (b : ℕ) → unsigned_abs (amount_of (map R.amount other.old) b)
         + groups_mass starts.now (map E.leaf entries.now) (length own.old) * most < R.limit }
-    ensures own { (s : ℕ) → s < length own.old → amount_of own.new s
+    ensures own { (s : ℕ) → s < length own.old → amount_of (map R.amount own.new) s
         ≡ group_sum two.now (group_at starts.now (map E.leaf entries.now) s) }
     ensures other { (b : ℕ) → amount_of (map R.amount other.new) b
         ≡ amount_of (map R.amount other.old) b +ℤ parts_sum starts.now (map E.leaf entries.now) one.now (length own.old) b }
@@ -39,7 +39,7 @@ pub(crate) fn both_rows<E: GroupEntry, R: Row>(
     for s in 0..own.len() {
         let group = &entries[starts[s] as usize..starts[s + 1] as usize];
         let sum = add_group(group, one[s], two, other);
-        put(own, s, sum.wide());
+        put(own, s, sum);
     }
 }
 

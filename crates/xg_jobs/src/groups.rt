@@ -1,5 +1,5 @@
 //! The groups of player one's sequences, with the smallest entries that have room.
-ghost use Rattle.std.specs.Prelude.{◌≡◌, ℕ, ◌*◌, ◌^◌, ◌<◌, ◌≤◌, max, All, IfOk, IsTrue, OnOk, length};
+ghost use Rattle.std.specs.Prelude.{◌≡◌, ◌*◌, ◌^◌, ◌<◌, ◌≤◌, max, All, IfOk, IsTrue, length};
 ghost use Rattle.def_sums.specs.Limits.{most_root};
 ghost use Rattle.def_tree.specs.declared.Player.TheVariants.{One};
 ghost use Rattle.def_plan.specs.Form.{sequence_count};
@@ -13,9 +13,9 @@ use crate::grouping::{entries_of, starts_of};
 use crate::input::RowInput;
 use crate::merging::merged;
 use crate::packing::{are_small, are_tiny, small_entries, tiny_entries};
-use crate::rows::Rows;
+use crate::rows::{Rows, SmallRows};
 use crate::sizes::{greatest_number, total_mass};
-use crate::writing::write_rows;
+use crate::writing::{write_rows, write_small_rows};
 use def_sums::MOST_ROOT;
 use def_tree::Player;
 use std::alloc::{AllocError, Global};
@@ -102,27 +102,45 @@ impl LeafGroups {
         self.mass
     }
 
-    /// Writes for each sequence of each player the sum over its leaves against the other player's numbers.
-    pub(crate) fn write_to(
-        &self,
-        alloc: Global,
-        input: &RowInput<'_>,
-        rows: &mut Rows,
-    ) -> Result<(), AllocError>
+    /// Writes for each sequence of each player the sum over its leaves against the other player's numbers. Takes no
+    /// memory.
+    pub(crate) fn write_to(&self, input: &RowInput<'_>, rows: &mut Rows)
         requires groups { self.now.weights ≡ pair_weights input.now.form.now One }
         requires numbers { AreNumbersOf input.now.form.now input.now.one.now input.now.two.now }
         requires rows_one { length rows.old.one ≡ sequence_count input.now.form.now.sets_one }
         requires rows_two { length rows.old.two ≡ sequence_count input.now.form.now.sets_two }
-        ensures { OnOk result (ArePlainSums input.now.form.now input.now.one.now input.now.two.now rows.new) }
+        ensures { ArePlainSums input.now.form.now input.now.one.now input.now.two.now rows.new }
     {
         input.form.facts();
-        let narrow = sums_fit_word(self.mass, input.one, input.two);
         let starts = &self.starts;
         match &self.entries {
-            GroupEntries::Tiny(entries) => write_rows(alloc, narrow, starts, entries, input, rows),
-            GroupEntries::Small(entries) => write_rows(alloc, narrow, starts, entries, input, rows),
-            GroupEntries::Wide(entries) => write_rows(alloc, narrow, starts, entries, input, rows),
+            GroupEntries::Tiny(entries) => write_rows(starts, entries, input, rows),
+            GroupEntries::Small(entries) => write_rows(starts, entries, input, rows),
+            GroupEntries::Wide(entries) => write_rows(starts, entries, input, rows),
         }
+    }
+
+    /// The same in 64 bits, if it is known that each sum has room in them.
+    pub(crate) fn write_small_to(&self, input: &RowInput<'_>, rows: &mut SmallRows) -> bool
+        requires groups { self.now.weights ≡ pair_weights input.now.form.now One }
+        requires numbers { AreNumbersOf input.now.form.now input.now.one.now input.now.two.now }
+        requires rows_one { length rows.old.one ≡ sequence_count input.now.form.now.sets_one }
+        requires rows_two { length rows.old.two ≡ sequence_count input.now.form.now.sets_two }
+        ensures sums { IsTrue result → ArePlainSums input.now.form.now input.now.one.now input.now.two.now rows.new }
+        ensures count_one { length rows.new.one ≡ length rows.old.one }
+        ensures count_two { length rows.new.two ≡ length rows.old.two }
+    {
+        input.form.facts();
+        if !sums_fit_word(self.mass, input.one, input.two) {
+            return false;
+        }
+        let starts = &self.starts;
+        match &self.entries {
+            GroupEntries::Tiny(entries) => write_small_rows(starts, entries, input, rows),
+            GroupEntries::Small(entries) => write_small_rows(starts, entries, input, rows),
+            GroupEntries::Wide(entries) => write_small_rows(starts, entries, input, rows),
+        }
+        true
     }
 }
 

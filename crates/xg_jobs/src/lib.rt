@@ -22,6 +22,6 @@ mod writing;
 pub use input::RowInput;
 pub use maker::RowMaker;
 pub use plain::PlainRows;
-pub use rows::Rows;
+pub use rows::{Rows, SmallRows};
 pub use sizes::{greatest_number, total_mass};
 pub use table::JobTable;

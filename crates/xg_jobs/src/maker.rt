@@ -1,11 +1,12 @@
 //! Makers of rows.
-ghost use Rattle.std.specs.Prelude.{IfOk};
+ghost use Rattle.std.specs.Prelude.{◌≡◌, IfOk, IsTrue, length};
 ghost use Rattle.std.specs.Thread.{IsSync};
+ghost use Rattle.def_plan.specs.Form.{sequence_count};
 ghost use Rattle.xg_jobs.specs.Rows.{AreNumbersOf, ArePlainSums};
 ghost use Rattle.xg_jobs.specs.Table.{IsTableOf};
 
 use crate::input::RowInput;
-use crate::rows::Rows;
+use crate::rows::{Rows, SmallRows};
 use crate::table::JobTable;
 use std::alloc::{AllocError, Global};
 use std::sync::Wait;
@@ -29,4 +30,18 @@ pub trait RowMaker {
         requires numbers { AreNumbersOf input.now.form.now input.now.one.now input.now.two.now }
         requires table { IsTableOf input.now.form.now jobs.now }
         ensures { IfOk result (λ rows. ArePlainSums input.now.form.now input.now.one.now input.now.two.now rows) };
+
+    /// Writes the same sums into rows of 64 bits. A maker that doesn't, or doesn't know that each sum has room in them,
+    /// answers false, and what is written then means nothing. Takes no memory.
+    fn small_rows(&self, input: &RowInput<'_>, jobs: &JobTable, rows: &mut SmallRows) -> bool
+        requires numbers { AreNumbersOf input.now.form.now input.now.one.now input.now.two.now }
+        requires table { IsTableOf input.now.form.now jobs.now }
+        requires rows_one { length rows.old.one ≡ sequence_count input.now.form.now.sets_one }
+        requires rows_two { length rows.old.two ≡ sequence_count input.now.form.now.sets_two }
+        ensures sums { IsTrue result → ArePlainSums input.now.form.now input.now.one.now input.now.two.now rows.new }
+        ensures count_one { length rows.new.one ≡ length rows.old.one }
+        ensures count_two { length rows.new.two ≡ length rows.old.two }
+    {
+        false
+    }
 }

@@ -3,7 +3,7 @@ ghost use Rattle.std.specs.Prelude.{IfOk};
 
 use crate::input::RowInput;
 use crate::maker::RowMaker;
-use crate::rows::Rows;
+use crate::rows::{Rows, SmallRows};
 use crate::table::JobTable;
 use std::alloc::{AllocError, Global};
 use std::sync::Wait;
@@ -24,7 +24,16 @@ impl RowMaker for PlainRows {
         jobs: &JobTable,
     ) -> Result<Rows, AllocError> {
         let mut rows = Rows::new(alloc, input.form)?;
-        jobs.write_to(alloc, input, &mut rows)?;
+        let mut small = SmallRows::new(alloc, input.form)?;
+        if jobs.write_small_to(input, &mut small) {
+            rows.widen(&small);
+        } else {
+            jobs.write_to(input, &mut rows);
+        }
         Ok(rows)
+    }
+
+    fn small_rows(&self, input: &RowInput<'_>, jobs: &JobTable, rows: &mut SmallRows) -> bool {
+        jobs.write_small_to(input, rows)
     }
 }

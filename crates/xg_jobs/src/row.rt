@@ -1,9 +1,7 @@
 //! The amount at a row, in 64 or 128 bits.
-ghost use Rattle.std.specs.Prelude.{◌≡◌, ℕ, ◌*◌, ◌^◌, ◌<◌, ℤ, pos, ◌+ℤ◌, ◌*ℤ◌, unsigned_abs, IfOk, length, map};
+ghost use Rattle.std.specs.Prelude.{◌≡◌, ℕ, ◌*◌, ◌^◌, ◌<◌, ℤ, pos, ◌+ℤ◌, ◌*ℤ◌, unsigned_abs, length, map};
 ghost use Rattle.def_sums.specs.Limits.{past_number};
 ghost use Rattle.def_plan.specs.FormRows.{amount_of};
-
-use std::alloc::{AllocError, Global};
 
 /// The amount at a row, in as many bits as the sums of a form need.
 pub(crate) trait Row: Copy {
@@ -15,18 +13,11 @@ pub(crate) trait Row: Copy {
     fn zero() -> Self
         ensures { amount result ≡ pos 0 };
 
-    fn zeros(alloc: Global, count: usize) -> Result<Vec<Self>, AllocError>
-        ensures count { IfOk result (λ rows. length rows.items ≡ count) }
-        ensures each { IfOk result (λ rows. (b : ℕ) → amount_of (map amount rows.items) b ≡ pos 0) };
-
     fn plus_product(&self, w: i64, n: u64) -> Self
         requires small { n < past_number }
         requires product { unsigned_abs w * n < limit }
         requires room { unsigned_abs (amount self.now +ℤ (w *ℤ pos n)) < limit }
         ensures { amount result ≡ amount self.now +ℤ (w *ℤ pos n) };
-
-    fn wide(&self) -> i128
-        ensures { result ≡ amount self.now };
 }
 
 impl Row for i64 {
@@ -38,16 +29,8 @@ impl Row for i64 {
         0
     }
 
-    fn zeros(alloc: Global, count: usize) -> Result<Vec<i64>, AllocError> {
-        vec![in alloc; 0i64; count]
-    }
-
     fn plus_product(&self, w: i64, n: u64) -> i64 {
         plus(*self, times(w, n))
-    }
-
-    fn wide(&self) -> i128 {
-        *self as i128
     }
 }
 
@@ -60,16 +43,8 @@ impl Row for i128 {
         0
     }
 
-    fn zeros(alloc: Global, count: usize) -> Result<Vec<i128>, AllocError> {
-        vec![in alloc; 0i128; count]
-    }
-
     fn plus_product(&self, w: i64, n: u64) -> i128 {
         plus_wide(*self, times_wide(w, n))
-    }
-
-    fn wide(&self) -> i128 {
-        *self
     }
 }
 
@@ -119,11 +94,12 @@ pub(crate) fn add_product<R: Row>(rows: &mut [R], row: usize, w: i64, n: u64)
 }
 
 /// Puts an amount at a row.
-pub(crate) fn put(rows: &mut [i128], row: usize, amount: i128)
+pub(crate) fn put<R: Row>(rows: &mut [R], row: usize, amount: R)
     requires inside { row < length rows.old }
     ensures count { length rows.new ≡ length rows.old }
-    ensures here { amount_of rows.new row ≡ amount }
-    ensures others { (b : ℕ) → (b ≡ row → ⊥) → amount_of rows.new b ≡ amount_of rows.old b }
+    ensures here { amount_of (map R.amount rows.new) row ≡ R.amount amount }
+    ensures others { (b : ℕ) → (b ≡ row → ⊥)
+        → amount_of (map R.amount rows.new) b ≡ amount_of (map R.amount rows.old) b }
 {
     rows[row] = amount;
 }

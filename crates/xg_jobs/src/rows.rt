@@ -52,6 +52,16 @@ impl Rows {
         }
     }
 
+    /// Puts the amounts of rows of 64 bits.
+    pub(crate) fn widen(&mut self, small: &SmallRows)
+        requires one { length self.old.one ≡ length small.now.one }
+        requires two { length self.old.two ≡ length small.now.two }
+        ensures { self.new ≡ small.now }
+    {
+        widen_into(&small.one, &mut self.one);
+        widen_into(&small.two, &mut self.two);
+    }
+
     /// Player one's amounts, by sequence.
     pub fn one(&self) -> &[i128]
         ensures { result.now ≡ self.now.one }
@@ -61,6 +71,57 @@ impl Rows {
 
     /// Player two's amounts, by sequence.
     pub fn two(&self) -> &[i128]
+        ensures { result.now ≡ self.now.two }
+    {
+        &self.two
+    }
+}
+
+fn widen_into(small: &[i64], amounts: &mut [i128])
+    requires { length amounts.old ≡ length small.now }
+    ensures { amounts.new ≡ small.now }
+{
+    for s in 0..amounts.len() {
+        amounts[s] = small[s] as i128;
+    }
+}
+
+/// The amounts at the rows of a form in 64 bits, in player one's payoff.
+#[derive(Drop)]
+pub struct SmallRows {
+    pub(crate) one: Vec<i64>,
+    pub(crate) two: Vec<i64>,
+}
+
+impl Model for SmallRows {
+    ghost use Rattle.xg_jobs.specs.Rows.{Amounts};
+
+    ghost Value = { Amounts };
+
+    ghost view = { λ r. record { one = r.one.items; two = r.two.items } };
+}
+
+impl SmallRows {
+    /// The amount 0 at each row of the form.
+    pub fn new(alloc: Global, form: &SeqForm) -> Result<SmallRows, AllocError>
+        ensures one { IfOk result (λ rows. rows.one ≡ replicate (sequence_count form.now.sets_one) (pos 0)) }
+        ensures two { IfOk result (λ rows. rows.two ≡ replicate (sequence_count form.now.sets_two) (pos 0)) }
+    {
+        Ok(SmallRows {
+            one: vec![in alloc; 0; form.sequence_count(Player::One) as usize]?,
+            two: vec![in alloc; 0; form.sequence_count(Player::Two) as usize]?,
+        })
+    }
+
+    /// Player one's amounts, by sequence.
+    pub fn one(&self) -> &[i64]
+        ensures { result.now ≡ self.now.one }
+    {
+        &self.one
+    }
+
+    /// Player two's amounts, by sequence.
+    pub fn two(&self) -> &[i64]
         ensures { result.now ≡ self.now.two }
     {
         &self.two

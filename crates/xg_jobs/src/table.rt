@@ -1,5 +1,5 @@
 //! The table of a game's jobs.
-ghost use Rattle.std.specs.Prelude.{◌≡◌, ◌-◌, ◌<◌, ◌≤◌, length, IfOk, OnOk, Some, slice_get, slice_index_or};
+ghost use Rattle.std.specs.Prelude.{◌≡◌, ◌-◌, ◌<◌, ◌≤◌, length, IfOk, IsTrue, Some, slice_get, slice_index_or};
 ghost use Rattle.def_history.specs.Jobs.{most_jobs};
 ghost use Rattle.def_history.specs.Leaves.{amounts};
 ghost use Rattle.def_history.specs.Packets.{IsPacketOf};
@@ -13,7 +13,7 @@ ghost use Rattle.xg_jobs.specs.Table.{IsFormOf, IsTableOf, job_table, most_touch
 use crate::cutting::ranges_of;
 use crate::groups::LeafGroups;
 use crate::input::RowInput;
-use crate::rows::Rows;
+use crate::rows::{Rows, SmallRows};
 use crate::touching::{most_rows, touched_of};
 use std::alloc::{AllocError, Global};
 use std::marker::Model;
@@ -128,19 +128,27 @@ impl JobTable {
         touched.packet_into(job, input.form, input.one, input.two, into);
     }
 
-    /// Writes the sums over all leaves.
-    pub(crate) fn write_to(
-        &self,
-        alloc: Global,
-        input: &RowInput<'_>,
-        rows: &mut Rows,
-    ) -> Result<(), AllocError>
+    /// Writes the sums over all leaves. Takes no memory.
+    pub(crate) fn write_to(&self, input: &RowInput<'_>, rows: &mut Rows)
         requires numbers { AreNumbersOf input.now.form.now input.now.one.now input.now.two.now }
         requires table { IsTableOf input.now.form.now self.now }
         requires rows_one { length rows.old.one ≡ sequence_count input.now.form.now.sets_one }
         requires rows_two { length rows.old.two ≡ sequence_count input.now.form.now.sets_two }
-        ensures { OnOk result (ArePlainSums input.now.form.now input.now.one.now input.now.two.now rows.new) }
+        ensures { ArePlainSums input.now.form.now input.now.one.now input.now.two.now rows.new }
     {
-        self.groups.write_to(alloc, input, rows)
+        self.groups.write_to(input, rows)
+    }
+
+    /// The same in 64 bits, if it is known that each sum has room in them.
+    pub(crate) fn write_small_to(&self, input: &RowInput<'_>, rows: &mut SmallRows) -> bool
+        requires numbers { AreNumbersOf input.now.form.now input.now.one.now input.now.two.now }
+        requires table { IsTableOf input.now.form.now self.now }
+        requires rows_one { length rows.old.one ≡ sequence_count input.now.form.now.sets_one }
+        requires rows_two { length rows.old.two ≡ sequence_count input.now.form.now.sets_two }
+        ensures sums { IsTrue result → ArePlainSums input.now.form.now input.now.one.now input.now.two.now rows.new }
+        ensures count_one { length rows.new.one ≡ length rows.old.one }
+        ensures count_two { length rows.new.two ≡ length rows.old.two }
+    {
+        self.groups.write_small_to(input, rows)
     }
 }

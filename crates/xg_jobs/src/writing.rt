@@ -1,69 +1,70 @@
-//! All rows from the groups, in as many bits as their sums need.
-ghost use Rattle.std.specs.Prelude.{◌≡◌, ℕ, ◌^◌, ◌≤◌, IsTrue, OnOk, length, map};
+//! All rows from the groups, in either width.
+ghost use Rattle.std.specs.Prelude.{◌≡◌, ℕ, ◌^◌, length, map, pos};
 ghost use Rattle.def_plan.specs.Form.{sequence_count};
-ghost use Rattle.def_plan.specs.FormRows.{amount_of};
+ghost use Rattle.def_plan.specs.FormRows.{amount_of, player_rows};
+ghost use Rattle.def_tree.specs.declared.Player.TheVariants.{One, Two};
 ghost use Rattle.xg_jobs.specs.Rows.{AreNumbersOf, ArePlainSums};
 ghost use Rattle.xg_jobs.specs.Writing.{CanWrite};
 
 use crate::both::both_rows;
 use crate::entry::GroupEntry;
 use crate::input::RowInput;
-use crate::row::{Row, put};
-use crate::rows::Rows;
-use std::alloc::{AllocError, Global};
+use crate::row::Row;
+use crate::rows::{Rows, SmallRows};
 
-/// Writes the rows of both players by one pass over player one's groups. Where each sum has room in 64 bits, `narrow`
-/// says so.
+/// Writes the rows of both players by one pass over player one's groups. Takes no memory.
 pub(crate) fn write_rows<E: GroupEntry>(
-    alloc: Global,
-    narrow: bool,
     starts: &[u32],
     entries: &[E],
     input: &RowInput<'_>,
     rows: &mut Rows,
-) -> Result<(), AllocError>
+)
     requires numbers { AreNumbersOf input.now.form.now input.now.one.now input.now.two.now }
     requires can { CanWrite (2 ^ 127) starts.now (map E.leaf entries.now) input.now.form.now input.now.one.now input.now.two.now }
-    requires fits { IsTrue narrow
-        → CanWrite (2 ^ 63) starts.now (map E.leaf entries.now) input.now.form.now input.now.one.now input.now.two.now }
     requires rows_one { length rows.old.one ≡ sequence_count input.now.form.now.sets_one }
     requires rows_two { length rows.old.two ≡ sequence_count input.now.form.now.sets_two }
-    ensures { OnOk result (ArePlainSums input.now.form.now input.now.one.now input.now.two.now rows.new) }
+    ensures { ArePlainSums input.now.form.now input.now.one.now input.now.two.now rows.new }
 {
-    if narrow {
-        write_rows_by::<E, i64>(alloc, starts, entries, input, rows)
-    } else {
-        write_rows_by::<E, i128>(alloc, starts, entries, input, rows)
-    }
+    rows.two.fill(0);
+    sum_rows(starts, entries, input, &mut rows.one, &mut rows.two);
 }
 
-// The same with player two's rows in as many bits as a row type has, until all leaves are added to them.
-fn write_rows_by<E: GroupEntry, R: Row>(
-    alloc: Global,
+/// The same in 64 bits, where each sum has room in them.
+pub(crate) fn write_small_rows<E: GroupEntry>(
     starts: &[u32],
     entries: &[E],
     input: &RowInput<'_>,
-    rows: &mut Rows,
-) -> Result<(), AllocError>
+    rows: &mut SmallRows,
+)
     requires numbers { AreNumbersOf input.now.form.now input.now.one.now input.now.two.now }
-    requires can { CanWrite R.limit starts.now (map E.leaf entries.now) input.now.form.now input.now.one.now input.now.two.now }
+    requires fits { CanWrite (2 ^ 63) starts.now (map E.leaf entries.now) input.now.form.now input.now.one.now input.now.two.now }
     requires rows_one { length rows.old.one ≡ sequence_count input.now.form.now.sets_one }
     requires rows_two { length rows.old.two ≡ sequence_count input.now.form.now.sets_two }
-    ensures { OnOk result (ArePlainSums input.now.form.now input.now.one.now input.now.two.now rows.new) }
+    ensures sums { ArePlainSums input.now.form.now input.now.one.now input.now.two.now rows.new }
+    ensures count_one { length rows.new.one ≡ length rows.old.one }
+    ensures count_two { length rows.new.two ≡ length rows.old.two }
 {
-    let RowInput { one, two, .. } = *input;
-    let mut other = R::zeros(alloc, two.len())?;
-    both_rows(starts, entries, one, two, &mut rows.one, &mut other);
-    put_all(&other, &mut rows.two);
-    Ok(())
+    let SmallRows { one, two } = rows;
+    two.fill(0);
+    sum_rows(starts, entries, input, one, two);
 }
 
-// Puts each amount at its row.
-fn put_all<R: Row>(amounts: &[R], rows: &mut [i128])
-    requires { length amounts.now ≡ length rows.old }
-    ensures { rows.new ≡ map R.amount amounts.now }
+// The sums of both players' rows, of which those of player two begin with 0.
+fn sum_rows<E: GroupEntry, R: Row>(
+    starts: &[u32],
+    entries: &[E],
+    input: &RowInput<'_>,
+    own: &mut [R],
+    other: &mut [R],
+)
+    requires numbers { AreNumbersOf input.now.form.now input.now.one.now input.now.two.now }
+    requires can { CanWrite R.limit starts.now (map E.leaf entries.now) input.now.form.now input.now.one.now input.now.two.now }
+    requires rows_one { length own.old ≡ sequence_count input.now.form.now.sets_one }
+    requires rows_two { length other.old ≡ sequence_count input.now.form.now.sets_two }
+    requires zeros { (b : ℕ) → amount_of (map R.amount other.old) b ≡ pos 0 }
+    ensures own { map R.amount own.new ≡ player_rows input.now.form.now One input.now.two.now }
+    ensures other { map R.amount other.new ≡ player_rows input.now.form.now Two input.now.one.now }
 {
-    for b in 0..rows.len() {
-        put(rows, b, amounts[b].wide());
-    }
+    let RowInput { one, two, .. } = *input;
+    both_rows(starts, entries, one, two, own, other);
 }

@@ -1,8 +1,8 @@
-use Rattle.std.proofs.Common.{◌≡◌, ℕ, ◌<◌, ◌≤◌, List, [], ◌∷◌, length, length-set, get_or, take, ℤ, pos, unsigned_abs, FitsSigned, to_z, of_z, arith, ap, rules, sym, ◌∙◌, ⊎_elim}
+use Rattle.std.proofs.Common.{◌≡◌, ℕ, ◌<◌, ◌≤◌, List, [], ◌∷◌, length, length-set, get_or, map, take, ℤ, pos, unsigned_abs, FitsSigned, to_z, of_z, arith, ap, rules, sym, ◌∙◌, ⊎_elim}
 use Rattle.std.specs.Int.{w64, w128}
 use Rattle.std.proofs.lemmas.Bool.{cases_eq, cases_lt}
 use Rattle.std.proofs.lemmas.Int.{to_z-of_z}
-use Rattle.std.proofs.lemmas.List.{get_or-set_other, get_or-set_same, get_or_past, take_all, take_more}
+use Rattle.std.proofs.lemmas.List.{get_or-set_other, get_or-set_same, get_or_past, length-map, take_all, take_more}
 use Rattle.def_sums.specs.Sum.{nat_sum_over}
 use Rattle.def_sums.proofs.SumLaws.{nat_sum_over-append}
 use Rattle.def_round.specs.Round.{utility}
@@ -11,30 +11,30 @@ use Rattle.xg_closer.proofs.closing.take_small_rows.Goals as goal
 use Rattle.def_plan.specs.FormRows.{amount_of}
 
 pub own_row-requires : goal.own_row-requires
-own_row-requires c =
-    let row : ℤ = amount_of c.args.rows.now c.loop-i.i in
-    let fits : FitsSigned w128 row = search rules in
-    let row_is : to_z w128 (of_z w128 row) ≡ row = to_z-of_z w128 row fits in
+own_row-requires g c =
+    let fits : FitsSigned w128 c.worth_at.result = search rules in
+    let row_is : to_z w128 (of_z w128 c.worth_at.result) ≡ c.worth_at.result = to_z-of_z w128 c.worth_at.result fits in
     let fits_small : FitsSigned w64 c.in-Some.row = search rules in
     let small_is : to_z w64 (of_z w64 c.in-Some.row) ≡ c.in-Some.row = to_z-of_z w64 c.in-Some.row fits_small in
     let known = c.in-Some.ensures in
     omega (arith, ap unsigned_abs (small_is ∙ known.0), known.1, c.loop-i.invariant.1)
 
 pub loop-i-preserved : goal.loop-i-preserved
-loop-i-preserved c =
-    let rows : List ℤ = c.args.rows.now in
+loop-i-preserved g c =
+    let rows : List ℤ = map g.A.Worth.amount c.args.rows.now in
+    let count : length rows ≡ length c.args.rows.now = length-map c.args.rows.now g.A.Worth.amount in
     let i : ℕ = c.loop-i.i in
     let row : ℤ = amount_of rows i in
-    let fits : FitsSigned w128 row = search rules in
-    let row_is : to_z w128 (of_z w128 row) ≡ row = to_z-of_z w128 row fits in
+    let fits : FitsSigned w128 c.worth_at.result = search rules in
+    let row_is : to_z w128 (of_z w128 c.worth_at.result) ≡ row = to_z-of_z w128 c.worth_at.result fits ∙ c.worth_at.ensures in
     let fits_small : FitsSigned w64 c.in-Some.row = search rules in
     let small_is : to_z w64 (of_z w64 c.in-Some.row) ≡ c.in-Some.row = to_z-of_z w64 c.in-Some.row fits_small in
     let known = c.in-Some.ensures in
     let taken : to_z w64 (of_z w64 c.in-Some.row) ≡ row = small_is ∙ known.0 ∙ row_is in
     let fits_own : FitsSigned w64 c.own_row.result = search rules in
     let own_is : to_z w64 (of_z w64 c.own_row.result) ≡ utility c.args.player row = to_z-of_z w64 c.own_row.result fits_own ∙ c.own_row.ensures ∙ ap (utility c.args.player) taken in
-    let below : i < length rows = c.loop-i-test.true in
-    let inside : i < length c.loop-i.worths = omega (arith, c.loop-i.invariant.0, c.requires.as_many) in (
+    let below : i < length rows = omega (arith, count, c.loop-i-test.true) in
+    let inside : i < length c.loop-i.worths = omega (arith, c.loop-i.invariant.0, c.requires.as_many, c.loop-i-test.true) in (
       length-set c.loop-i.worths i (to_z w64 (of_z w64 c.own_row.result)) ∙ c.loop-i.invariant.0,
       omega (arith, ap (nat_sum_over unsigned_abs) (take_more rows i (pos 0) below), nat_sum_over-append unsigned_abs (take i rows) (get_or rows i (pos 0) ∷ []), ap unsigned_abs taken, ap unsigned_abs row_is, c.unsigned_abs-room.ensures.value, known.1, c.loop-i.invariant.1),
       λ s low.
@@ -45,15 +45,17 @@ loop-i-preserved c =
     )
 
 pub returns-clause-taken : goal.returns-clause-taken
-returns-clause-taken c =
-    let past : length c.args.rows.now ≤ c.loop-i.i = omega arith in
-    let all = ap (nat_sum_over unsigned_abs) (take_all c.loop-i.i c.args.rows.now past) in
+returns-clause-taken g c =
+    let rows : List ℤ = map g.A.Worth.amount c.args.rows.now in
+    let count : length rows ≡ length c.args.rows.now = length-map c.args.rows.now g.A.Worth.amount in
+    let past : length rows ≤ c.loop-i.i = omega (arith, count, c.loop-i-test.false) in
+    let all = ap (nat_sum_over unsigned_abs) (take_all c.loop-i.i rows past) in
     record {
       each = λ s.
           ⊎_elim
-          (λ low. c.loop-i.invariant.2 s (omega (arith, low)))
-          (λ high. get_or_past c.loop-i.worths s (pos 0) (omega (arith, c.loop-i.invariant.0, c.requires.as_many)) ∙ sym (own_amount_beyond c.args.player c.args.rows.now s (omega arith)))
-          (cases_lt s (length c.args.rows.now));
+          (λ low. c.loop-i.invariant.2 s (omega (arith, low, past)))
+          (λ high. get_or_past c.loop-i.worths s (pos 0) (omega (arith, c.loop-i.invariant.0, c.requires.as_many, count)) ∙ sym (own_amount_beyond c.args.player rows s (omega arith)))
+          (cases_lt s (length rows));
       together = omega (arith, c.loop-i.invariant.1, all);
       small = omega (arith, c.loop-i.invariant.1, all);
     }

@@ -1,6 +1,4 @@
-use Rattle.std.proofs.Common.{◌≡◌, ℕ, ◌<◌, List, map, length, rules, arith, FitsSigned, to_z, of_z, ap, ◌∙◌, ⊎_elim}
-use Rattle.std.specs.Int.{w128}
-use Rattle.std.proofs.lemmas.Int.{to_z-of_z}
+use Rattle.std.proofs.Common.{ℕ, ◌<◌, List, map, length, arith, ap, ◌∙◌, ⊎_elim}
 use Rattle.std.proofs.lemmas.Bool.{cases_eq}
 use Rattle.def_plan.specs.FormRows.{amount_of}
 use Rattle.xg_jobs.specs.Groups.{GroupLeaf, group_sum}
@@ -43,12 +41,10 @@ loop-s-preserved g c =
     let starts = c.args.starts.now in
     let gs : List GroupLeaf = map g.E.GroupEntry.leaf c.args.entries.now in
     let n : ℕ = c.loop-s.s in
-    let fits : FitsSigned w128 c.wide.result = search rules in
-    let w_is : to_z w128 (of_z w128 c.wide.result) ≡ c.wide.result = to_z-of_z w128 c.wide.result fits in
     let is = group_map g.E.GroupEntry.leaf starts c.args.entries.now n in (
       λ t low.
           ⊎_elim
-          (λ same. rw same (c.put.ensures.here ∙ w_is ∙ c.wide.ensures ∙ c.add_group-sum.ensures.own ∙ ap (group_sum c.args.two.now) is))
+          (λ same. rw same (c.put.ensures.here ∙ c.add_group-sum.ensures.own ∙ ap (group_sum c.args.two.now) is))
           (λ there. c.put.ensures.others t there ∙ c.loop-s.invariant.0 t (omega arith))
           (cases_eq t n),
       λ b. row_after starts gs c.args.one.now n b _ _ _ (amount_of (map g.R.Row.amount c.args.other.now) b) is (c.loop-s.invariant.1 b) (c.add_group-sum.ensures.other b),

@@ -10,6 +10,6 @@ ghost-add_group g a = g.most
 abbrev pub invariant-loop-s : goal.invariant-loop-s
 invariant-loop-s g l =
     ((t : ℕ) → t < l.s
-    → amount_of l.own t ≡ group_sum l.two (group_at l.starts (map g.E.GroupEntry.leaf l.entries) t))
+    → amount_of (map g.R.Row.amount l.own) t ≡ group_sum l.two (group_at l.starts (map g.E.GroupEntry.leaf l.entries) t))
     × ((b : ℕ) → amount_of (map g.R.Row.amount l.other) b
     ≡ amount_of (map g.R.Row.amount l.initial.other) b +ℤ parts_sum l.starts (map g.E.GroupEntry.leaf l.entries) l.one l.s b)

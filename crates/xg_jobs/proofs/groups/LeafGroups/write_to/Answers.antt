@@ -15,17 +15,6 @@ write_rows-requires-clause-can c =
     (ap (λ (g : GroupedWeights). g.weights) c.self.view_is ∙ c.requires.groups) c.self.invariant c.facts.ensures.sequences
     (wide_room groups.starts.items (leaves_of_group groups.entries) form x y groups.others groups.mass c.self.invariant c.requires.numbers)
 
-pub write_rows-requires-clause-fits : goal.write_rows-requires-clause-fits
-write_rows-requires-clause-fits c narrow =
-    let form = c.args.input.now.form.now in
-    let x = c.args.input.now.one.now in
-    let y = c.args.input.now.two.now in
-    let groups = c.self.inside in
-    can_write (2 ^ 63) groups.starts.items c.deref.result.now (leaves_of_group groups.entries) (map tiny_leaf c.deref-in-Tiny.result.now) form x y groups.others groups.mass
-    c.deref.ensures.value (ap (map tiny_leaf) c.deref-in-Tiny.ensures.value ∙ sym (ap leaves_of_group c.in-Tiny.is))
-    (ap (λ (g : GroupedWeights). g.weights) c.self.view_is ∙ c.requires.groups) c.self.invariant c.facts.ensures.sequences
-    (c.sums_fit_word-narrow.ensures narrow)
-
 pub write_rows-requires-in-Small-clause-can : goal.write_rows-requires-in-Small-clause-can
 write_rows-requires-in-Small-clause-can c =
     let form = c.args.input.now.form.now in
@@ -37,17 +26,6 @@ write_rows-requires-in-Small-clause-can c =
     (ap (λ (g : GroupedWeights). g.weights) c.self.view_is ∙ c.requires.groups) c.self.invariant c.facts.ensures.sequences
     (wide_room groups.starts.items (leaves_of_group groups.entries) form x y groups.others groups.mass c.self.invariant c.requires.numbers)
 
-pub write_rows-requires-in-Small-clause-fits : goal.write_rows-requires-in-Small-clause-fits
-write_rows-requires-in-Small-clause-fits c narrow =
-    let form = c.args.input.now.form.now in
-    let x = c.args.input.now.one.now in
-    let y = c.args.input.now.two.now in
-    let groups = c.self.inside in
-    can_write (2 ^ 63) groups.starts.items c.deref-in-Small.result.now (leaves_of_group groups.entries) (map small_leaf c.deref-in-Small-2.result.now) form x y groups.others groups.mass
-    c.deref-in-Small.ensures.value (ap (map small_leaf) c.deref-in-Small-2.ensures.value ∙ sym (ap leaves_of_group c.in-Small.is))
-    (ap (λ (g : GroupedWeights). g.weights) c.self.view_is ∙ c.requires.groups) c.self.invariant c.facts.ensures.sequences
-    (c.sums_fit_word-narrow.ensures narrow)
-
 pub write_rows-requires-in-Wide-clause-can : goal.write_rows-requires-in-Wide-clause-can
 write_rows-requires-in-Wide-clause-can c =
     let form = c.args.input.now.form.now in
@@ -58,14 +36,3 @@ write_rows-requires-in-Wide-clause-can c =
     c.deref-in-Wide.ensures.value (ap (map wide_leaf) c.deref-in-Wide-2.ensures.value ∙ sym (ap leaves_of_group c.in-Wide.is))
     (ap (λ (g : GroupedWeights). g.weights) c.self.view_is ∙ c.requires.groups) c.self.invariant c.facts.ensures.sequences
     (wide_room groups.starts.items (leaves_of_group groups.entries) form x y groups.others groups.mass c.self.invariant c.requires.numbers)
-
-pub write_rows-requires-in-Wide-clause-fits : goal.write_rows-requires-in-Wide-clause-fits
-write_rows-requires-in-Wide-clause-fits c narrow =
-    let form = c.args.input.now.form.now in
-    let x = c.args.input.now.one.now in
-    let y = c.args.input.now.two.now in
-    let groups = c.self.inside in
-    can_write (2 ^ 63) groups.starts.items c.deref-in-Wide.result.now (leaves_of_group groups.entries) (map wide_leaf c.deref-in-Wide-2.result.now) form x y groups.others groups.mass
-    c.deref-in-Wide.ensures.value (ap (map wide_leaf) c.deref-in-Wide-2.ensures.value ∙ sym (ap leaves_of_group c.in-Wide.is))
-    (ap (λ (g : GroupedWeights). g.weights) c.self.view_is ∙ c.requires.groups) c.self.invariant c.facts.ensures.sequences
-    (c.sums_fit_word-narrow.ensures narrow)
