@@ -71,13 +71,6 @@ module _ (variant : Variant) (board : SizedBoard) (offer : Offer) (divisor : ℕ
       → CanKeep lower divisor offer.plan_one offer.against_one
   can_keep_lower lower is_end sequences sets = record {
     is_end = is_end;
-    is_plan = record {
-      sets = m.form.sets_one;
-      root = root;
-      order = m.order_one;
-      is_plan = m.fair.plan_one;
-      limit = m.fair.small_root;
-    };
     sequences = m.fair.plan_one.all_sequences ∙ ap (λ (s : FormSizes). s.sequences_one) m.sizes ∙ sym sequences;
     sets =
         ap (λ (r : Reply). length r.sets) m.fair.against_one ∙ length-best m.form Two offer.plan_one
@@ -92,13 +85,6 @@ module _ (variant : Variant) (board : SizedBoard) (offer : Offer) (divisor : ℕ
       → CanKeep upper divisor offer.plan_two offer.against_two
   can_keep_upper upper is_end sequences sets = record {
     is_end = is_end;
-    is_plan = record {
-      sets = m.form.sets_two;
-      root = root;
-      order = m.order_two;
-      is_plan = m.fair.plan_two;
-      limit = m.fair.small_root;
-    };
     sequences = m.fair.plan_two.all_sequences ∙ ap (λ (s : FormSizes). s.sequences_two) m.sizes ∙ sym sequences;
     sets =
         ap (λ (r : Reply). length r.sets) m.fair.against_two ∙ length-best m.form One offer.plan_two

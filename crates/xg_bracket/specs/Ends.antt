@@ -1,9 +1,8 @@
 -- The ends that a board keeps, and its lines.
 use Rattle.std.specs.Prelude.{◌≡◌, ℕ, zero, suc, ◌≤◌, List, length, Option, Some, None, unsigned_abs}
-use Rattle.def_sums.specs.Limits.{most_root, most_row}
+use Rattle.def_sums.specs.Limits.{most_row}
 use Rattle.def_tree.specs.declared.Player.{Player}
-use Rattle.def_plan.specs.Form.{AreInOrder, InformationSet, SequenceForm, player_sets, sequence_count}
-use Rattle.def_plan.specs.Plan.{IsPlan}
+use Rattle.def_plan.specs.Form.{SequenceForm, player_sets, sequence_count}
 use Rattle.def_reply.specs.Reply.{Reply}
 use Rattle.def_reply.specs.declared.TraceLine.{TraceLine}
 use Rattle.def_reply.specs.Offers.{KeptEnd, most_divisor}
@@ -32,14 +31,6 @@ line_with round lower upper = record {
   high = upper.reply.reply.total;
 }
 
--- a plan of some player, within the limit of roots
-pub record IsSomePlan (plan : List ℕ) : Type 0 where
-  pub sets : List InformationSet
-  pub root : ℕ
-  pub order : AreInOrder sets
-  pub is_plan : IsPlan sets root plan
-  pub limit : root ≤ most_root
-
 -- the end has a bound within the limits, and room for a plan and a reply of its sizes
 pub record IsEnd (end : BestEnd) : Type 0 where
   pub sets : length end.reply.reply.sets ≡ end.sets
@@ -54,7 +45,6 @@ pub record IsDividedByWeight (variant : Variant) (end : BestEnd) : Type 0 where
 -- a plan and a reply that the end has room for, within the limits
 pub record CanKeep (end : BestEnd) (divisor : ℕ) (plan : List ℕ) (reply : Reply) : Type 0 where
   pub is_end : IsEnd end
-  pub is_plan : IsSomePlan plan
   pub sequences : length plan ≡ length end.plan
   pub sets : length reply.sets ≡ end.sets
   pub small_divisor : divisor ≤ most_divisor

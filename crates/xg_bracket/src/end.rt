@@ -2,10 +2,10 @@
 ghost use Rattle.std.specs.Prelude.{◌≡◌, ◌*ℤ◌, ◌<◌, ◌≤◌, ◌^◌, int_lt, length, pos, unsigned_abs};
 ghost use Rattle.def_sums.specs.Limits.{most_row};
 ghost use Rattle.def_reply.specs.Offers.{keep_lower, keep_upper, most_divisor};
-ghost use Rattle.xg_bracket.specs.Ends.{CanKeep, IsSomePlan, end_after, kept_end, kept_of};
+ghost use Rattle.xg_bracket.specs.Ends.{CanKeep, end_after, kept_end, kept_of};
 
 use crate::parts::PlanAndReply;
-use xg_plan::{Plan, Reply, add_to};
+use xg_plan::{Plan, Reply};
 
 // A player's plan after a round, by what its bound is divided, and the reply to it, which is one for so many sets.
 #[derive(Drop)]
@@ -91,7 +91,6 @@ fn times(reply: &Reply, factor: u32) -> i128
 }
 
 fn keep(end: &mut BestEnd, round: u32, divisor: u32, plan: &Plan, reply: &Reply)
-    requires plan { IsSomePlan plan.now }
     requires sequences { length plan.now ≡ length end.old.plan }
     requires kept_sets { length end.old.reply.reply.sets ≡ end.old.sets }
     requires sets { length reply.now.reply.sets ≡ end.old.sets }
@@ -100,18 +99,8 @@ fn keep(end: &mut BestEnd, round: u32, divisor: u32, plan: &Plan, reply: &Reply)
 {
     end.round = round;
     end.divisor = divisor;
-    copy_plan(plan, &mut end.plan);
+    end.plan.copy_from(plan);
     copy_reply(reply, end.sets, &mut end.reply);
-}
-
-// Makes `into` a plan with the same numbers. Takes no memory.
-fn copy_plan(plan: &Plan, into: &mut Plan)
-    requires plan { IsSomePlan plan.now }
-    requires sequences { length plan.now ≡ length into.old }
-    ensures { into.new ≡ plan.now }
-{
-    into.clear();
-    add_to(into, plan);
 }
 
 // Makes `into` the same reply at this number of sets. Takes no memory, and copies no worths.

@@ -49,6 +49,14 @@ impl Plan {
         &self.weights
     }
 
+    /// Gives each sequence the number that it has in another plan of the form. Takes no memory.
+    pub fn copy_from(&mut self, plan: &Plan)
+        requires { length self.old ≡ length plan.now }
+        ensures { self.new ≡ plan.now }
+    {
+        self.weights.copy_from_slice(&plan.weights);
+    }
+
     /// Gives each sequence 0.
     pub fn clear(&mut self)
         ensures { self.new ≡ replicate (length self.old) 0 }
