@@ -51,7 +51,7 @@ pub fn close_round(
     close_by_rows(form, player, regrets, play, rows);
 }
 
-/// The same with rows of 64 bits.
+/// Adds a round's regrets as `close_round` does, by rows of 64 bits.
 pub fn close_small_round(
     form: &SeqForm,
     player: Player,

@@ -140,6 +140,9 @@ fn units_of_large(part: u128, sum: u128) -> u32
     requires within { part ≤ sum }
     ensures { result ≡ units * part / sum }
 {
+    if part == 0 {
+        return 0;
+    }
     if part == sum {
         return UNITS;
     }
