@@ -23,8 +23,9 @@ use Rattle.xg_jobs.proofs.TouchedJobs.{form_leaves}
 pub ranges_partition : (form : SequenceForm) (table : TableOfJobs) → IsTableOf form table
     → Partitions table.ranges (length form.leaves)
 ranges_partition form table is =
-    subst (Partitions table.ranges) (sym (form_leaves form is.tree is.form_is))
-    (subst (λ (ranges : List LeafRange). Partitions ranges (leaf_count (prefix is.tree))) (sym (ap (λ (t : TableOfJobs). t.ranges) is.table_is)) (partition is.tree is.rules.tree.one))
+    let leaves = is.leaves in
+    subst (Partitions table.ranges) (sym (form_leaves form leaves.tree leaves.form_is))
+    (subst (λ (ranges : List LeafRange). Partitions ranges (leaf_count (prefix leaves.tree))) (sym leaves.ranges_are) (partition leaves.tree leaves.rules.tree.one))
 
 -- rows with the sums of all jobs' amounts are the plain sums
 pub plain_sums : (form : SequenceForm) (numbers_one numbers_two : List ℕ) (table : TableOfJobs) (amounts : Amounts)

@@ -48,14 +48,14 @@ impl<'g, G: Gate> LockedRows<'g, G> {
     }
 }
 
-/// Makes rows by a closure that does.
+/// Makes rows by a closure that does, and that may make packets of jobs.
 #[derive(Drop)]
 pub struct MadeBy<F> {
     pub make: F,
 }
 
 impl<F: Fn(&RowInput<'_>, &JobTable) -> Result<Rows, AllocError>> RowMaker for MadeBy<F> {
-    ghost use Rattle.std.specs.Prelude.{IfOk};
+    ghost use Rattle.std.specs.Prelude.{IfOk, true};
     ghost use Rattle.xg_jobs.specs.Rows.{AreNumbersOf, ArePlainSums};
     ghost use Rattle.xg_jobs.specs.Table.{IsTableOf};
 
@@ -65,6 +65,12 @@ impl<F: Fn(&RowInput<'_>, &JobTable) -> Result<Rows, AllocError>> RowMaker for M
         → IsTableOf input.now.form.now jobs.now → F.pre m.make input jobs)
         × ((input jobs : _) (made : _) → F.post m.make input jobs made
         → IfOk made (λ rows. ArePlainSums input.now.form.now input.now.one.now input.now.two.now rows)) };
+
+    ghost by_packets = { λ _. true };
+
+    fn makes_packets(&self) -> bool {
+        true
+    }
 
     fn rows<Rt: Threads + Wait + Sync>(
         &self,

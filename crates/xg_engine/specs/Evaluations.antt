@@ -13,14 +13,23 @@ use Rattle.def_plus.specs.Variants.{weight_of_rounds}
 use Rattle.def_plus_run.specs.VariantRun.{run_of}
 use Rattle.xg_bracket.specs.Board.{offer_of, sizes_of}
 use Rattle.xg_engine.specs.declared.evaluating.Evaluator.{Evaluator}
+use Rattle.xg_engine.specs.declared.evaluating.RowRoom.{RowRoom}
 use Rattle.xg_engine.specs.declared.settings.Settings.{Settings}
 
--- the board is made for plans in the form after rounds of the variant and for so many offers, and the replies have room
--- for all sets and sequences
+-- there is room for all sequences, in either width
+pub record HasRoomForRows (form : SequenceForm) (room : RowRoom) : Type 0 where
+  pub one : length room.rows.one ≡ sequence_count form.sets_one
+  pub two : length room.rows.two ≡ sequence_count form.sets_two
+  pub small_one : length room.small_rows.one ≡ sequence_count form.sets_one
+  pub small_two : length room.small_rows.two ≡ sequence_count form.sets_two
+
+-- the board is made for plans in the form after rounds of the variant and for so many offers, and rows and replies have
+-- room for all sets and sequences
 pub record CanEvaluate (variant : Variant) (form : SequenceForm) (evaluations : ℕ) (evaluator : Evaluator) : Type 0 where
   pub capacity : evaluator.board.capacity ≡ evaluations
   pub sizes : evaluator.board.sizes ≡ sizes_of form
   pub variant_is : evaluator.board.variant ≡ variant
+  pub rows : HasRoomForRows form evaluator.room
   pub sets_one : length evaluator.reply_one.reply.sets ≡ length form.sets_one
   pub worths_one : length evaluator.reply_one.worths ≡ sequence_count form.sets_one
   pub sets_two : length evaluator.reply_two.reply.sets ≡ length form.sets_two

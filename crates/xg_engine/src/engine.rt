@@ -15,6 +15,7 @@ ghost use Rattle.def_plus_run.specs.VariantRun.{outcome_of};
 ghost use Rattle.xg_engine.specs.Ends.{AreBoundsOfLine, AreUnbeaten, HasEnds, HasGapOfLine, NoLineIsWider};
 ghost use Rattle.xg_engine.specs.State.{AreWithinLimits, AreWithinLimitsOf, Asks, head_with, sums_of};
 ghost use Rattle.def_game_numbers.specs.Weighed.{weighed_game};
+ghost use Rattle.xg_jobs.specs.Table.{HasLeavesOf, Serves};
 
 use crate::asking::head_with;
 use crate::running::{FinishedRun, play};
@@ -41,7 +42,7 @@ pub struct Engine {
 }
 
 impl Model for Engine {
-    ghost use Rattle.xg_jobs.specs.Table.{IsTableOf};
+    ghost use Rattle.xg_jobs.specs.Table.{HasLeavesOf};
     ghost use Rattle.xg_engine.specs.Engines.{engine_state};
     ghost use Rattle.xg_engine.specs.State.{EngineState};
 
@@ -49,7 +50,7 @@ impl Model for Engine {
 
     ghost view = { λ e. engine_state e.numbers e.last_run };
 
-    ghost invariant = { λ e. IsTableOf e.numbers.form e.jobs };
+    ghost invariant = { λ e. HasLeavesOf e.numbers.form e.jobs };
 }
 
 impl Engine {
@@ -73,7 +74,7 @@ impl Engine {
         ensures no_outcome { IfOk result (λ engine. engine.outcome ≡ None) }
         ensures no_sums { IfOk result (λ engine. engine.sums ≡ None) }
     {
-        let jobs = JobTable::build(alloc, numbers.form(), game.tree())?;
+        let jobs = JobTable::without_rows(alloc, numbers.form(), game.tree())?;
         Ok(Engine {
             numbers,
             jobs,
@@ -153,6 +154,7 @@ impl Engine {
         ensures writable { OnOk result (IfSome self.new.outcome (IsOutcomeOf self.old.game.form)) }
     {
         self.last_run = None;
+        note_rows(alloc, self.numbers.form(), maker, &mut self.jobs)?;
         let head = head_with(&self.numbers, settings);
         let source = RowSource {
             rt,
@@ -201,4 +203,21 @@ impl Engine {
             None => None,
         }
     }
+}
+
+// Notes the rows of the jobs where the maker makes packets.
+fn note_rows<M: RowMaker>(
+    alloc: Global,
+    form: &SeqForm,
+    maker: &M,
+    jobs: &mut JobTable,
+) -> Result<(), AllocError>
+    requires { HasLeavesOf form.now jobs.old }
+    ensures serves { OnOk result (Serves (M.by_packets maker.now) form.now jobs.new) }
+    ensures leaves { HasLeavesOf form.now jobs.new }
+{
+    if maker.makes_packets() {
+        jobs.add_rows(alloc, form)?;
+    }
+    Ok(())
 }

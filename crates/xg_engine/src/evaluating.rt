@@ -3,9 +3,10 @@ ghost use Rattle.std.specs.Prelude.{◌≡◌, ◌<◌, IfOk, OnOk, length};
 ghost use Rattle.std.specs.Thread.{IsSync};
 ghost use Rattle.def_reply.specs.Offers.{new_board, offered};
 ghost use Rattle.xg_bracket.specs.Board.{last_round};
-ghost use Rattle.xg_jobs.specs.Table.{IsTableOf};
-ghost use Rattle.xg_engine.specs.Evaluations.{AreSumsAfter, CanEvaluate, best_offer};
-ghost use Rattle.xg_engine.specs.Players.{IsSoundForm};
+ghost use Rattle.xg_jobs.specs.Rows.{ArePlainSums};
+ghost use Rattle.xg_jobs.specs.Table.{Serves};
+ghost use Rattle.xg_engine.specs.Evaluations.{AreSumsAfter, CanEvaluate, HasRoomForRows, best_offer};
+ghost use Rattle.xg_engine.specs.Players.{IsSmallPlan, IsSoundForm};
 
 use crate::source::RowSource;
 use def_plus::Variant;
@@ -13,17 +14,61 @@ use std::alloc::{AllocError, Global};
 use std::sync::Wait;
 use std::thread::Threads;
 use xg_bracket::Board;
-use xg_jobs::RowMaker;
+use xg_jobs::{RowMaker, Rows, SmallRows};
 use xg_plan::{Plan, Player, Reply};
 use xg_reply::best_reply;
 use xg_seq::SeqForm;
 
-/// The bracket so far, and room for each player's best reply.
+/// The bracket so far, and room for the rows against both sums of plans and for each player's best reply.
 #[derive(Drop)]
 pub(crate) struct Evaluator {
     pub(crate) board: Board,
+    pub(crate) room: RowRoom,
     pub(crate) reply_one: Reply,
     pub(crate) reply_two: Reply,
+}
+
+/// Rows, and room for those that are made in 64 bits.
+#[derive(Drop)]
+pub(crate) struct RowRoom {
+    pub(crate) rows: Rows,
+    pub(crate) small_rows: SmallRows,
+}
+
+impl RowRoom {
+    fn new(alloc: Global, form: &SeqForm) -> Result<RowRoom, AllocError>
+        ensures { IfOk result (HasRoomForRows form.now) }
+    {
+        Ok(RowRoom {
+            rows: Rows::new(alloc, form)?,
+            small_rows: SmallRows::new(alloc, form)?,
+        })
+    }
+
+    // The leaf sums of each player's sequences against the other player's plan. Where they are made in 64 bits, no
+    // memory is taken.
+    fn make<Rt: Threads + Wait + Sync, M: RowMaker>(
+        &mut self,
+        source: &RowSource<'_, Rt, M>,
+        one: &Plan,
+        two: &Plan,
+    ) -> Result<(), AllocError>
+        requires sync { IsSync Rt.row }
+        requires can { M.can_make source.now.maker.now }
+        requires table { Serves (M.by_packets source.now.maker.now) source.now.form.now source.now.jobs.now }
+        requires plan_one { IsSmallPlan source.now.form.now.sets_one one.now }
+        requires plan_two { IsSmallPlan source.now.form.now.sets_two two.now }
+        requires room { HasRoomForRows source.now.form.now self.old }
+        ensures sums { OnOk result (ArePlainSums source.now.form.now one.now two.now self.new.rows) }
+        ensures room { OnOk result (HasRoomForRows source.now.form.now self.new) }
+    {
+        if source.small_rows(one, two, &mut self.small_rows) {
+            self.rows.widen(&self.small_rows);
+        } else {
+            self.rows = source.rows(one, two)?;
+        }
+        Ok(())
+    }
 }
 
 impl Evaluator {
@@ -39,6 +84,7 @@ impl Evaluator {
     {
         Ok(Evaluator {
             board: Board::of_variant(alloc, form, evaluations, variant)?,
+            room: RowRoom::new(alloc, form)?,
             reply_one: Reply::new(alloc, form, Player::One)?,
             reply_two: Reply::new(alloc, form, Player::Two)?,
         })
@@ -54,7 +100,7 @@ impl Evaluator {
     ) -> Result<(), AllocError>
         requires sync { IsSync Rt.row }
         requires can { M.can_make source.now.maker.now }
-        requires table { IsTableOf source.now.form.now source.now.jobs.now }
+        requires table { Serves (M.by_packets source.now.maker.now) source.now.form.now source.now.jobs.now }
         requires form { IsSoundForm source.now.form.now }
         requires plans { AreSumsAfter self.old.board.variant source.now.form.now round one.now two.now }
         requires later { last_round self.old.board.board.trace < round }
@@ -65,7 +111,8 @@ impl Evaluator {
         ensures board { OnOk result (self.new.board.board ≡ offered self.old.board.board
             (best_offer self.old.board.variant source.now.form.now round one.now two.now)) }
     {
-        let rows = source.rows(one, two)?;
+        self.room.make(source, one, two)?;
+        let rows = &self.room.rows;
         best_reply(source.form, Player::Two, rows.two(), &mut self.reply_two);
         best_reply(source.form, Player::One, rows.one(), &mut self.reply_one);
         self.board

@@ -11,7 +11,7 @@ ghost use Rattle.def_round.specs.Play.{GivesAllUnits, plan_of_play, play_of};
 ghost use Rattle.def_round.specs.Round.{own_sum, regrets_after};
 ghost use Rattle.def_plus.specs.declared.Variant.{Variant};
 ghost use Rattle.def_plus.specs.Variants.{most_rounds_of, most_scale_of};
-ghost use Rattle.xg_jobs.specs.Table.{IsTableOf};
+ghost use Rattle.xg_jobs.specs.Table.{Serves};
 ghost use Rattle.xg_plan.specs.Plan.{AreOfOneForm};
 ghost use Rattle.xg_engine.specs.Players.{CanGrow, HasRoomForSequences, IsSoundForm, StandAfter, StandsWith};
 ghost use Rattle.xg_engine.specs.Players.{regrets_kept, sum_with, times_of};
@@ -148,7 +148,7 @@ impl Players {
     ) -> Result<(), AllocError>
         requires sync { IsSync Rt.row }
         requires can { M.can_make source.now.maker.now }
-        requires table { IsTableOf source.now.form.now source.now.jobs.now }
+        requires table { Serves (M.by_packets source.now.maker.now) source.now.form.now source.now.jobs.now }
         requires form { IsSoundForm source.now.form.now }
         requires some_scale { 1 ≤ scale }
         requires small_scale { scale ≤ most_scale_of variant }

@@ -6,7 +6,7 @@ ghost use Rattle.def_run.specs.Run.{outcome_with};
 ghost use Rattle.def_plus.specs.Variants.{rounds_of};
 ghost use Rattle.def_plus_run.specs.VariantRun.{outcome_of};
 ghost use Rattle.xg_cert.specs.Outcome.{head_of};
-ghost use Rattle.xg_jobs.specs.Table.{IsTableOf};
+ghost use Rattle.xg_jobs.specs.Table.{Serves};
 ghost use Rattle.xg_engine.specs.Players.{IsSoundForm};
 ghost use Rattle.xg_engine.specs.Runs.{IsAfter};
 ghost use Rattle.xg_engine.specs.State.{AreWithinLimits, AreWithinLimitsOf, Asks};
@@ -66,7 +66,7 @@ impl Run {
     ) -> Result<(), AllocError>
         requires sync { IsSync Rt.row }
         requires can { M.can_make source.now.maker.now }
-        requires table { IsTableOf source.now.form.now source.now.jobs.now }
+        requires table { Serves (M.by_packets source.now.maker.now) source.now.form.now source.now.jobs.now }
         requires form { IsSoundForm source.now.form.now }
         requires limits { AreWithinLimitsOf variant settings }
         requires next { so_far < settings.rounds }
@@ -94,7 +94,7 @@ pub(crate) fn play<Rt: Threads + Wait + Sync, M: RowMaker>(
 ) -> Result<FinishedRun, AllocError>
     requires sync { IsSync Rt.row }
     requires can { M.can_make source.now.maker.now }
-    requires table { IsTableOf source.now.form.now source.now.jobs.now }
+    requires table { Serves (M.by_packets source.now.maker.now) source.now.form.now source.now.jobs.now }
     requires limits { AreWithinLimitsOf variant settings }
     requires head { Asks settings (head_of head) }
     ensures outcome { IfOk result (λ run. run.outcome ≡ outcome_of variant source.now.form.now (head_of head)) }

@@ -3,7 +3,7 @@ ghost use Rattle.std.specs.Prelude.{◌≡◌, IfOk, IsTrue, length};
 ghost use Rattle.std.specs.Thread.{IsSync};
 ghost use Rattle.def_plan.specs.Form.{sequence_count};
 ghost use Rattle.xg_jobs.specs.Rows.{AreNumbersOf, ArePlainSums};
-ghost use Rattle.xg_jobs.specs.Table.{IsTableOf};
+ghost use Rattle.xg_jobs.specs.Table.{HasLeavesOf, Serves};
 ghost use Rattle.xg_engine.specs.Players.{IsSmallPlan};
 
 use std::alloc::{AllocError, Global};
@@ -28,7 +28,7 @@ impl<'a, Rt: Threads + Wait + Sync, M: RowMaker> RowSource<'a, Rt, M> {
     pub(crate) fn rows(&self, one: &Plan, two: &Plan) -> Result<Rows, AllocError>
         requires sync { IsSync Rt.row }
         requires can { M.can_make self.now.maker.now }
-        requires table { IsTableOf self.now.form.now self.now.jobs.now }
+        requires table { Serves (M.by_packets self.now.maker.now) self.now.form.now self.now.jobs.now }
         requires plan_one { IsSmallPlan self.now.form.now.sets_one one.now }
         requires plan_two { IsSmallPlan self.now.form.now.sets_two two.now }
         ensures { IfOk result (λ rows. ArePlainSums self.now.form.now one.now two.now rows) }
@@ -39,7 +39,7 @@ impl<'a, Rt: Threads + Wait + Sync, M: RowMaker> RowSource<'a, Rt, M> {
 
     /// The same in 64 bits, if the maker makes them and they surely have room. Takes no memory.
     pub(crate) fn small_rows(&self, one: &Plan, two: &Plan, rows: &mut SmallRows) -> bool
-        requires table { IsTableOf self.now.form.now self.now.jobs.now }
+        requires table { HasLeavesOf self.now.form.now self.now.jobs.now }
         requires plan_one { IsSmallPlan self.now.form.now.sets_one one.now }
         requires plan_two { IsSmallPlan self.now.form.now.sets_two two.now }
         requires rows_one { length rows.old.one ≡ sequence_count self.now.form.now.sets_one }

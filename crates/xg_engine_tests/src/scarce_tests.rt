@@ -22,7 +22,15 @@ struct ScarceRows {
 }
 
 impl RowMaker for ScarceRows {
+    ghost use Rattle.std.specs.Prelude.{false};
+
     ghost can_make = { λ _. Unit {0} };
+
+    ghost by_packets = { λ _. false };
+
+    fn makes_packets(&self) -> bool {
+        false
+    }
 
     fn rows<Rt: Threads + Wait + Sync>(
         &self,

@@ -93,17 +93,17 @@ pub job_is_touched : (form : SequenceForm) (table : TableOfJobs) (job : ℕ) (to
     → JobIsTouched form table job touched
 job_is_touched form table job touched is low found =
     let none : RangeOfLeaves = record { first = 0; count = 0 } in
-    let tree : Forest = is.tree in
+    let tree : Forest = is.leaves.tree in
     let range : RangeOfLeaves = get_or (job_ranges tree) job none in
-    let ranges_are : table.ranges ≡ job_ranges tree = ap (λ (t : TableOfJobs). t.ranges) is.table_is in
-    let touched_are : table.touched ≡ map (job_rows form) (job_ranges tree) = ap (λ (t : TableOfJobs). t.touched) is.table_is in
+    let ranges_are : table.ranges ≡ job_ranges tree = is.leaves.ranges_are in
+    let touched_are : table.touched ≡ map (job_rows form) (job_ranges tree) = is.touched_are ∙ ap (map (job_rows form)) ranges_are in
     let there : job < length (job_ranges tree) = subst (λ rs. job < length rs) ranges_are low in
     let whole : touched ≡ job_rows form range =
     found ∙ ap (λ ts. get_or ts job touched) touched_are ∙ get_or-map (job_rows form) (job_ranges tree) job none touched there in
     let same : range ≡ touched.range = sym (ap (λ (t : JobRows). t.range) whole) in
     record {
       range_is = ap (λ rs. get_or rs job none) ranges_are ∙ same;
-      inside = subst (λ (r : RangeOfLeaves). r.first + r.count ≤ length form.leaves) same (ranges_inside form tree is.form_is is.rules.tree.one job none there);
+      inside = subst (λ (r : RangeOfLeaves). r.first + r.count ≤ length form.leaves) same (ranges_inside form tree is.leaves.form_is is.leaves.rules.tree.one job none there);
       rows = whole ∙ ap (job_rows form) same;
       few = omega (arith, ap (λ (t : JobRows). length t.rows) found, at_most_touched table.touched job touched (omega (arith, ap (length {A = JobRows}) touched_are, length-map (job_ranges tree) (job_rows form), there)));
     }

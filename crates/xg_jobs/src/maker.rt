@@ -1,9 +1,9 @@
 //! Makers of rows.
-ghost use Rattle.std.specs.Prelude.{◌≡◌, IfOk, IsTrue, length};
+ghost use Rattle.std.specs.Prelude.{◌≡◌, Bool, IfOk, IsTrue, length};
 ghost use Rattle.std.specs.Thread.{IsSync};
 ghost use Rattle.def_plan.specs.Form.{sequence_count};
 ghost use Rattle.xg_jobs.specs.Rows.{AreNumbersOf, ArePlainSums};
-ghost use Rattle.xg_jobs.specs.Table.{IsTableOf};
+ghost use Rattle.xg_jobs.specs.Table.{HasLeavesOf, Serves};
 
 use crate::input::RowInput;
 use crate::rows::{Rows, SmallRows};
@@ -14,8 +14,14 @@ use std::thread::Threads;
 
 /// Who makes a form's rows.
 pub trait RowMaker {
-    // what the maker itself needs
+    // what the maker itself needs, and whether it makes packets of jobs
     ghost can_make: { Self → Type 0 };
+
+    ghost by_packets: { Self → Bool };
+
+    /// Whether packets of jobs are made, for which a table has to have the rows of each job.
+    fn makes_packets(&self) -> bool
+        ensures { result ≡ by_packets self.now };
 
     /// The leaf sum of each sequence of the input's form against the other player's numbers, in player one's payoff.
     fn rows<Rt: Threads + Wait + Sync>(
@@ -28,14 +34,14 @@ pub trait RowMaker {
         requires sync { IsSync Rt.row }
         requires can { can_make self.now }
         requires numbers { AreNumbersOf input.now.form.now input.now.one.now input.now.two.now }
-        requires table { IsTableOf input.now.form.now jobs.now }
+        requires table { Serves (by_packets self.now) input.now.form.now jobs.now }
         ensures { IfOk result (λ rows. ArePlainSums input.now.form.now input.now.one.now input.now.two.now rows) };
 
     /// Writes the same sums into rows of 64 bits. A maker that doesn't, or doesn't know that each sum has room in them,
     /// answers false, and what is written then means nothing. Takes no memory.
     fn small_rows(&self, input: &RowInput<'_>, jobs: &JobTable, rows: &mut SmallRows) -> bool
         requires numbers { AreNumbersOf input.now.form.now input.now.one.now input.now.two.now }
-        requires table { IsTableOf input.now.form.now jobs.now }
+        requires table { HasLeavesOf input.now.form.now jobs.now }
         requires rows_one { length rows.old.one ≡ sequence_count input.now.form.now.sets_one }
         requires rows_two { length rows.old.two ≡ sequence_count input.now.form.now.sets_two }
         ensures sums { IsTrue result → ArePlainSums input.now.form.now input.now.one.now input.now.two.now rows.new }

@@ -1,6 +1,4 @@
 //! Rows by one loop, without workers.
-ghost use Rattle.std.specs.Prelude.{IfOk};
-
 use crate::input::RowInput;
 use crate::maker::RowMaker;
 use crate::rows::{Rows, SmallRows};
@@ -14,7 +12,15 @@ use std::thread::Threads;
 pub struct PlainRows;
 
 impl RowMaker for PlainRows {
+    ghost use Rattle.std.specs.Prelude.{false};
+
     ghost can_make = { λ _. Unit {0} };
+
+    ghost by_packets = { λ _. false };
+
+    fn makes_packets(&self) -> bool {
+        false
+    }
 
     fn rows<Rt: Threads + Wait + Sync>(
         &self,

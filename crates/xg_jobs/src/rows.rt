@@ -52,8 +52,8 @@ impl Rows {
         }
     }
 
-    /// Puts the amounts of rows of 64 bits.
-    pub(crate) fn widen(&mut self, small: &SmallRows)
+    /// Puts the amounts of rows of 64 bits. Takes no memory.
+    pub fn widen(&mut self, small: &SmallRows)
         requires one { length self.old.one ≡ length small.now.one }
         requires two { length self.old.two ≡ length small.now.two }
         ensures { self.new ≡ small.now }

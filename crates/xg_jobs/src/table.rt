@@ -1,5 +1,5 @@
 //! The table of a game's jobs.
-ghost use Rattle.std.specs.Prelude.{◌≡◌, ◌-◌, ◌<◌, ◌≤◌, length, IfOk, IsTrue, Some, slice_get, slice_index_or};
+ghost use Rattle.std.specs.Prelude.{◌≡◌, ◌-◌, ◌<◌, ◌≤◌, length, IfOk, IsTrue, OnErr, OnOk, Some, map, slice_get, slice_index_or};
 ghost use Rattle.def_history.specs.Jobs.{most_jobs};
 ghost use Rattle.def_history.specs.Leaves.{amounts};
 ghost use Rattle.def_history.specs.Packets.{IsPacketOf};
@@ -8,7 +8,8 @@ ghost use Rattle.def_history.specs.JobRows.{leaf_amount};
 ghost use Rattle.def_plan.specs.Form.{sequence_count};
 ghost use Rattle.def_plan.specs.FormRows.{row_count};
 ghost use Rattle.xg_jobs.specs.Rows.{AreNumbersOf, ArePlainSums};
-ghost use Rattle.xg_jobs.specs.Table.{IsFormOf, IsTableOf, job_table, most_touched};
+ghost use Rattle.xg_touched.specs.Touched.{job_rows};
+ghost use Rattle.xg_jobs.specs.Table.{HasLeavesOf, IsFormOf, IsTableOf, job_table, leaf_table, most_touched};
 
 use crate::cutting::ranges_of;
 use crate::groups::LeafGroups;
@@ -24,7 +25,8 @@ use xg_tree::Tree;
 
 /// The jobs of a game: the subtrees below the chance nodes at the top of its tree, each with its leaves.
 ///
-/// Jobs are numbered from 0, and there are at most 4,096.
+/// Jobs are numbered from 0, and there are at most 4,096. Packets of jobs need the rows of each job, which a table has or
+/// hasn't; all else needs none of them.
 #[derive(Drop)]
 pub struct JobTable {
     ranges: Vec<LeafRange>,
@@ -59,22 +61,46 @@ impl Model for JobTable {
 }
 
 impl JobTable {
-    /// The jobs of the tree, and its leaves by player one's sequence.
+    /// The jobs of the tree with their rows, and its leaves by player one's sequence.
     pub fn build(alloc: Global, form: &SeqForm, tree: &Tree) -> Result<JobTable, AllocError>
         requires { IsFormOf form.now tree.now }
         ensures table { IfOk result (λ jobs. jobs ≡ job_table form.now tree.now) }
         ensures whole { IfOk result (λ jobs. IsTableOf form.now jobs) }
     {
+        let mut jobs = JobTable::without_rows(alloc, form, tree)?;
+        jobs.add_rows(alloc, form)?;
+        Ok(jobs)
+    }
+
+    /// The same without the rows of the jobs.
+    pub fn without_rows(alloc: Global, form: &SeqForm, tree: &Tree) -> Result<JobTable, AllocError>
+        requires { IsFormOf form.now tree.now }
+        ensures table { IfOk result (λ jobs. jobs ≡ leaf_table form.now tree.now) }
+        ensures leaves { IfOk result (λ jobs. HasLeavesOf form.now jobs) }
+    {
         let ranges = ranges_of(alloc, tree)?;
         // a table is of a tree that keeps the rules
         tree.facts();
         let groups = LeafGroups::build(alloc, form)?;
-        let touched = touched_of(alloc, form, &ranges)?;
         Ok(JobTable {
             ranges,
             groups,
-            touched,
+            touched: Vec::new(alloc),
         })
+    }
+
+    /// Notes the rows of each job. Where there is no memory for them, the table stays as it was.
+    pub fn add_rows(&mut self, alloc: Global, form: &SeqForm) -> Result<(), AllocError>
+        requires { HasLeavesOf form.now self.old }
+        ensures touched { OnOk result (self.new.touched ≡ map (job_rows form.now) self.old.ranges) }
+        ensures whole { OnOk result (IsTableOf form.now self.new) }
+        ensures ranges { self.new.ranges ≡ self.old.ranges }
+        ensures weights { self.new.weights ≡ self.old.weights }
+        ensures mass { self.new.mass ≡ self.old.mass }
+        ensures no_memory { OnErr result (self.new ≡ self.old) }
+    {
+        self.touched = touched_of(alloc, form, &self.ranges)?;
+        Ok(())
     }
 
     /// The number of jobs.
@@ -131,7 +157,7 @@ impl JobTable {
     /// Writes the sums over all leaves. Takes no memory.
     pub(crate) fn write_to(&self, input: &RowInput<'_>, rows: &mut Rows)
         requires numbers { AreNumbersOf input.now.form.now input.now.one.now input.now.two.now }
-        requires table { IsTableOf input.now.form.now self.now }
+        requires table { HasLeavesOf input.now.form.now self.now }
         requires rows_one { length rows.old.one ≡ sequence_count input.now.form.now.sets_one }
         requires rows_two { length rows.old.two ≡ sequence_count input.now.form.now.sets_two }
         ensures { ArePlainSums input.now.form.now input.now.one.now input.now.two.now rows.new }
@@ -142,7 +168,7 @@ impl JobTable {
     /// The same in 64 bits, if it is known that each sum has room in them.
     pub(crate) fn write_small_to(&self, input: &RowInput<'_>, rows: &mut SmallRows) -> bool
         requires numbers { AreNumbersOf input.now.form.now input.now.one.now input.now.two.now }
-        requires table { IsTableOf input.now.form.now self.now }
+        requires table { HasLeavesOf input.now.form.now self.now }
         requires rows_one { length rows.old.one ≡ sequence_count input.now.form.now.sets_one }
         requires rows_two { length rows.old.two ≡ sequence_count input.now.form.now.sets_two }
         ensures sums { IsTrue result → ArePlainSums input.now.form.now input.now.one.now input.now.two.now rows.new }

@@ -8,8 +8,8 @@ use Rattle.xg_jobs.specs.Table.{IsFormOf}
 use Rattle.xg_engine.proofs.GameFormIsOfTree.{form_of_tree}
 use Rattle.xg_engine.proofs.engine.Engine.from_numbers.Goals as goal
 
-pub build-requires : goal.build-requires
-build-requires c =
+pub without_rows-requires : goal.without_rows-requires
+without_rows-requires c =
     let game : GameFile = c.args.game.now in
     let form_is : c.form.result.now ≡ form_of_game (tables_of game) game.tree =
     c.form.ensures ∙ ap (λ (numbers : WeighedGame). numbers.form) c.requires in

@@ -1,0 +1,16 @@
+use Rattle.std.proofs.Common.{◌∙◌}
+use Rattle.def_tree.specs.declared.Player.TheVariants.{One, Two}
+use Rattle.xg_engine.proofs.RowSizes.{count_of_rows}
+use Rattle.xg_engine.proofs.evaluating.RowRoom.make.Goals as goal
+
+pub returns-in_ok-self-clause-room : goal.returns-in_ok-self-clause-room
+returns-in_ok-self-clause-room g c =
+    let form = c.args.source.now.form.now in
+    let rows = c.in_ok-self.field-0 in
+    let sums = c.in_ok-self.ensures in
+    record {
+      one = count_of_rows form One c.args.two.now rows.one sums.one;
+      two = count_of_rows form Two c.args.one.now rows.two sums.two;
+      small_one = c.small_rows.ensures.count_one ∙ c.requires.room.small_one;
+      small_two = c.small_rows.ensures.count_two ∙ c.requires.room.small_two;
+    }
