@@ -220,6 +220,23 @@ fn limits(rt: HostRuntime) -> Result<(), Fail> {
     Ok(())
 }
 
+/// Products whose parts are within the limit at once, or only in lowest terms.
+#[test]
+fn products_at_the_limit(rt: HostRuntime) -> Result<(), Fail> {
+    let most = whole(4611686018427387904)?;
+    let root = whole(2147483648)?;
+    let third = mul(most, one_over(3))?;
+    let three_halves = mul(whole(3)?, one_over(2))?;
+    assert!(rt;
+        mul(root, root) == Ok(most)
+            && mul(root, whole(2147483649)?) == Err(OverLimit)
+            && mul(most, one_over(2)) == whole(2305843009213693952)
+            && mul(third, three_halves) == whole(2305843009213693952)
+            && mul(third, whole(-3)?) == whole(-4611686018427387904)
+    );
+    Ok(())
+}
+
 #[test]
 fn multiples(rt: HostRuntime) {
     assert!(rt;

@@ -7,12 +7,17 @@ use Rattle.std.proofs.lemmas.Bool.{and_parts, and_from, leb-true, le-leb, le-ltb
 use Rattle.std.specs.Int.{w128}
 use Rattle.std.proofs.lemmas.Int.{ints, to_z-of_z, fits_signed_mul, unsigned_abs-mul}
 use Rattle.std.proofs.lemmas.Nat.{mul-le}
+use Rattle.std.proofs.lemmas.Nat.Gcd.{IsGcd-swap, same_from_IsGcd}
 use Rattle.std.proofs.Math.Nat.{mul-pos}
 use Rattle.def_fraction.specs.Divisors.{gcd}
 use Rattle.def_fraction.specs.Fraction.{Fraction, IsInLowestTerms, fraction_of, signed, whole_number, fits}
-use Rattle.def_fraction.proofs.DivisorLemmas.{gcd-one, gcd-with_one}
+use Rattle.def_fraction.proofs.DivisorLemmas.{IsGcd-gcd, gcd-one, gcd-with_one}
 use Rattle.def_fraction.proofs.FractionLemmas.{fraction_of-reduced, fraction_of-signed, fraction_of-lowest, unsigned_abs-signed}
 use Rattle.xg_frac.specs.Parts.{AreParts, fraction_from}
+
+-- the greatest common divisor is the same in either order
+pub gcd-swap : (a b : ℕ) → gcd b a ≡ gcd a b
+gcd-swap a b = same_from_IsGcd a b _ _ (IsGcd-swap b a _ (IsGcd-gcd b a)) (IsGcd-gcd a b)
 
 pub fits-small : (num : ℤ) (den : ℕ) → unsigned_abs num ≤ 2 ^ 62 → den ≤ 2 ^ 62
     → fits (record { num = num; den = den }) ≡ true

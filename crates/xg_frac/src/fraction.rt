@@ -117,7 +117,10 @@ fn short_common_divisor(a: u64, b: u64) -> u64
     ensures value { result ≡ gcd a b }
     ensures positive { 1 ≤ b → 1 ≤ result }
 {
-    let (mut x, mut y) = (a, b);
+    if b == 1 {
+        return 1;
+    }
+    let (mut x, mut y) = if a < b { (b, a) } else { (a, b) };
     while y != 0 {
         (x, y) = (y, x % y);
     }
@@ -151,6 +154,9 @@ pub(crate) fn reduced(negative: bool, num: u128, den: u128) -> Option<Frac>
     ensures { let exact = fraction_of (signed negative num) den in
         SomeIff result (IsTrue (fits exact)) exact }
 {
+    if num <= MOST_PART && den <= MOST_PART {
+        return Some(short_reduced(negative, num as u64, den as u64));
+    }
     let common = greatest_common_divisor(num, den);
     let num = quotient(num, common);
     let den = quotient(den, common);
@@ -161,6 +167,25 @@ pub(crate) fn reduced(negative: bool, num: u128, den: u128) -> Option<Frac>
         num: with_sign(negative, num as u64),
         den: den as i64,
     })
+}
+
+/// The same in 64 bits, where nothing is past the limit.
+fn short_reduced(negative: bool, num: u64, den: u64) -> Frac
+    requires from_one { 1 ≤ den }
+    requires within { (num ≤ most) × (den ≤ most) }
+    ensures { result ≡ fraction_of (signed negative num) den }
+{
+    let common = short_common_divisor(num, den);
+    if common == 1 {
+        return Frac {
+            num: with_sign(negative, num),
+            den: den as i64,
+        };
+    }
+    Frac {
+        num: with_sign(negative, num / common),
+        den: (den / common) as i64,
+    }
 }
 
 /// The quotient, rounded down, in 64 bits where the numbers fit.
