@@ -66,6 +66,7 @@ impl PlacedNumbers {
     }
 
     /// Where this number stands.
+    #[inline(always)]
     pub(crate) fn find(&self, number: u64) -> Option<usize>
         ensures place { result ≡ position (nat_eq number) self.now }
         ensures within { IfSome result (λ i. i < length self.now) }
@@ -78,6 +79,7 @@ impl PlacedNumbers {
     }
 
     /// The mark of this number.
+    #[inline(always)]
     fn mark(&self, number: u64) -> u32
         ensures { result ≡ marked (position (nat_eq number) self.now) }
     {
@@ -109,6 +111,7 @@ impl PlacedNumbers {
 }
 
 /// The mark of the array, where 0 stands behind its end.
+#[inline(always)]
 fn near_mark(near: &[u32], number: u64) -> u32
     ensures { result ≡ slice_index near.now number }
 {

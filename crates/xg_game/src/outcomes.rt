@@ -70,6 +70,7 @@ impl OutcomeTable {
     }
 
     /// Where the outcome of this number is.
+    #[inline(always)]
     pub(crate) fn find(&self, number: u64) -> Option<usize>
         ensures place { result ≡ faults.outcome_place_of number self.now }
         ensures within { IfSome result (λ i. i < length self.now) }
@@ -86,6 +87,7 @@ impl OutcomeTable {
     }
 
     /// What is known of the outcome at `i`.
+    #[inline(always)]
     pub(crate) fn get(&self, i: usize) -> &OutcomeDescription
         requires { i < length self.now }
         ensures name { result.now.name ≡ (faults.outcome_at self.now i).name }
@@ -96,6 +98,7 @@ impl OutcomeTable {
     }
 
     /// Whether the entry is the first to mention its outcome, and has no payoffs.
+    #[inline(always)]
     pub(crate) fn is_undefined(&self, entry: &EntryView<'_>, place: Option<usize>) -> bool
         requires { place ≡ place_of_outcome entry.now.outcome self.now }
         ensures { result ≡ faults.is_outcome_undefined self.now (entry_seen entry.now).outcome }
@@ -104,6 +107,7 @@ impl OutcomeTable {
     }
 
     /// Whether the entry has another name or other payoffs than are kept of its outcome.
+    #[inline(always)]
     pub(crate) fn differs(&self, entry: &EntryView<'_>, place: Option<usize>) -> bool
         requires { place ≡ place_of_outcome entry.now.outcome self.now }
         ensures { result ≡ faults.outcome_differs self.now (entry_seen entry.now).outcome }
@@ -122,6 +126,7 @@ impl OutcomeTable {
     }
 
     /// Whether the entry is the first to mention its outcome, and has other than two payoffs.
+    #[inline(always)]
     pub(crate) fn is_miscounted(&self, entry: &EntryView<'_>, place: Option<usize>) -> bool
         requires { place ≡ place_of_outcome entry.now.outcome self.now }
         ensures { result ≡ faults.is_outcome_miscounted self.now (entry_seen entry.now).outcome }
@@ -130,6 +135,7 @@ impl OutcomeTable {
     }
 
     /// The number of the entry's outcome among those of the table, which count from 1.
+    #[inline(always)]
     pub(crate) fn number_with(&self, entry: &EntryView<'_>, place: Option<usize>) -> u32
         requires place { place ≡ place_of_outcome entry.now.outcome self.now }
         requires room { length self.now + 1 < 2 ^ 32 }

@@ -55,6 +55,7 @@ impl<D: Drop> NumberTable<D> {
     }
 
     /// Where this number stands.
+    #[inline(always)]
     pub(crate) fn find(&self, number: u64) -> Option<usize>
         ensures place { result ≡ position (nat_eq number) (keys_of self.now) }
         ensures within { IfSome result (λ i. i < length self.now) }
@@ -71,6 +72,7 @@ impl<D: Drop> NumberTable<D> {
     }
 
     /// What is known at `i`.
+    #[inline(always)]
     pub(crate) fn get(&self, i: usize) -> &Described<D>
         requires { i < length self.now }
         ensures { slice_get (values_of self.now) i ≡ Some result.now }

@@ -77,6 +77,7 @@ impl ContentTables {
     }
 
     /// Where the set and the outcome of an entry are in the tables.
+    #[inline(always)]
     pub(crate) fn places(&self, entry: &EntryView<'_>) -> Places
         ensures { ArePlacesOf (entry_seen entry.now) self.now result }
     {
@@ -90,6 +91,7 @@ impl ContentTables {
     }
 
     /// The first fault of an entry after those so far.
+    #[inline(always)]
     pub(crate) fn fault(&self, entry: &EntryView<'_>, places: Places) -> Option<FileFault>
         requires consistent { AreTogether self.now }
         requires places { ArePlacesOf (entry_seen entry.now) self.now places }
@@ -123,6 +125,7 @@ impl ContentTables {
         None
     }
 
+    #[inline(always)]
     fn is_set_undefined(&self, entry: &EntryView<'_>, place: Option<usize>) -> bool
         requires { place ≡ place_of_set (entry_seen entry.now) self.now.sets }
         ensures { let r = entry_seen entry.now in
@@ -133,6 +136,7 @@ impl ContentTables {
         has_set(entry.kind) && self.sets.of(kind).is_undefined(entry, place)
     }
 
+    #[inline(always)]
     fn set_differs(&self, entry: &EntryView<'_>, place: Option<usize>) -> bool
         requires { place ≡ place_of_set (entry_seen entry.now) self.now.sets }
         ensures { let r = entry_seen entry.now in
@@ -143,6 +147,7 @@ impl ContentTables {
         has_set(entry.kind) && self.sets.of(kind).differs(kind, entry, place)
     }
 
+    #[inline(always)]
     fn is_set_miscounted(&self, entry: &EntryView<'_>, place: Option<usize>) -> bool
         requires { place ≡ place_of_set (entry_seen entry.now) self.now.sets }
         ensures { let r = entry_seen entry.now in
@@ -154,6 +159,7 @@ impl ContentTables {
     }
 
     /// Takes an entry that has no fault. Where memory runs out, part of it may be in the tables.
+    #[inline(always)]
     pub(crate) fn keep(&mut self, entry: &EntryView<'_>, places: Places) -> Result<(), AllocError>
         requires places { ArePlacesOf (entry_seen entry.now) self.old places }
         requires consistent { AreTogether self.old }
@@ -184,6 +190,7 @@ impl ContentTables {
     }
 
     /// The node of an entry that has no fault.
+    #[inline(always)]
     fn node_with(&self, entry: &EntryView<'_>, places: Places) -> Node
         requires places { ArePlacesOf (entry_seen entry.now) self.now places }
         requires consistent { AreTogether self.now }
@@ -211,6 +218,7 @@ impl ContentTables {
 }
 
 /// Who moves at an entry of this kind and player.
+#[inline(always)]
 fn mover(kind: EntryKind, player: u64) -> Kind
     ensures { result ≡ faults.mover_as kind player }
 {
@@ -221,6 +229,7 @@ fn mover(kind: EntryKind, player: u64) -> Kind
     }
 }
 
+#[inline(always)]
 fn has_set(kind: EntryKind) -> bool
     ensures { result ≡ faults.has_set kind }
 {
@@ -231,6 +240,7 @@ fn has_set(kind: EntryKind) -> bool
 }
 
 /// Whether an entry of a player has a number that is no player's.
+#[inline(always)]
 fn is_no_player(kind: EntryKind, player: u64) -> bool
     ensures { result ≡ faults.is_no_player kind player }
 {

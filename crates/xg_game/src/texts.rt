@@ -53,6 +53,7 @@ impl Texts {
     }
 
     /// Puts a text last. After an error the texts are as they were.
+    #[inline(always)]
     pub(crate) fn push(&mut self, text: &[u8]) -> Result<(), AllocError>
         ensures ok { OnOk result (self.new ≡ self.old ++ text.now ∷ []) }
         ensures err { OnErr result (self.new ≡ self.old) }
@@ -68,6 +69,7 @@ impl Texts {
     }
 
     /// Puts a text that stands elsewhere last. After an error the texts are as they were.
+    #[inline(always)]
     pub(crate) fn push_view(&mut self, alloc: Global, text: &TextView<'_>) -> Result<(), AllocError>
         ensures ok { OnOk result (self.new ≡ self.old ++ text.now ∷ []) }
         ensures err { OnErr result (self.new ≡ self.old) }
@@ -89,6 +91,7 @@ impl Texts {
 }
 
 /// Puts the bytes of a text last. Most nodes have no name, and an empty one costs nothing.
+#[inline(always)]
 fn extend(bytes: &mut Vec<u8>, text: &[u8]) -> Result<(), AllocError>
     ensures ok { OnOk result (bytes.new.items ≡ bytes.old.items ++ text.now) }
     ensures err { OnErr result (bytes.new.items ≡ bytes.old.items) }

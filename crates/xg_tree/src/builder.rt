@@ -77,6 +77,7 @@ impl Builder {
     }
 
     /// Puts the next node, in prefix order.
+    #[inline(always)]
     pub fn push(&mut self, node: Node) -> Result<(), PushFault>
         requires incomplete { wanted 1 self.old ≢ 0 }
         requires fits { Fits self.old node }
@@ -108,6 +109,7 @@ impl Builder {
     }
 }
 
+#[inline(always)]
 fn leaves_in(node: Node) -> u32
     ensures { result ≡ leaf_count (node ∷ []) }
 {

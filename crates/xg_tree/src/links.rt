@@ -22,6 +22,7 @@ pub(crate) struct NodePlace {
 }
 
 /// The links of node `k`, and none for 0.
+#[inline(always)]
 pub(crate) fn links_at(links: &[Links], k: u32) -> Links
     requires { k ≤ length links.now }
     ensures { result ≡ links_at links.now k }
@@ -37,6 +38,7 @@ pub(crate) fn links_at(links: &[Links], k: u32) -> Links
 }
 
 /// Where the next node stands: below the innermost node with children to come.
+#[inline(always)]
 pub(crate) fn next_place(links: &[Links]) -> NodePlace
     requires limit { length links.now < most_nodes }
     requires ordered { ComeAfterParents links.now }
@@ -56,6 +58,7 @@ pub(crate) fn next_place(links: &[Links]) -> NodePlace
 }
 
 /// Sets the next sibling of node `k`. There is nothing to set for 0.
+#[inline(always)]
 pub(crate) fn set_next(links: &mut Vec<Links>, k: u32, next: u32)
     requires { k ≤ length links.old.items }
     ensures { links.new.items ≡ with_next links.old.items k next }
@@ -66,6 +69,7 @@ pub(crate) fn set_next(links: &mut Vec<Links>, k: u32, next: u32)
 }
 
 // The first child of node `k`, which has so many children: the node that comes next.
+#[inline(always)]
 fn first_below(k: u32, children: u32) -> u32
     requires { k ≤ most_nodes }
     ensures { result ≡ first_below k children }
@@ -74,6 +78,7 @@ fn first_below(k: u32, children: u32) -> u32
 }
 
 /// Puts the links of the next node, which has so many children.
+#[inline(always)]
 pub(crate) fn put_next(links: &mut Vec<Links>, children: u32)
     requires room { vec_len links.old < vec_capacity links.old }
     requires limit { length links.old.items < most_nodes }

@@ -33,6 +33,7 @@ impl Sizes {
         }
     }
 
+    #[inline(always)]
     pub(crate) fn fits(&self, node: Node) -> bool
         ensures { IsTrue result ↔ FitsSizes self.now node }
     {
@@ -45,6 +46,7 @@ impl Sizes {
     }
 
     // Notes the size of a set that is new.
+    #[inline(always)]
     pub(crate) fn note(&mut self, node: Node) -> Result<(), AllocError>
         ensures ok { OnOk result (self.new ≡ with_size self.old node) }
         ensures err { OnErr result (self.new ≡ self.old) }
@@ -59,6 +61,7 @@ impl Sizes {
     }
 }
 
+#[inline(always)]
 fn joins(sizes: &[u32], set: u32, children: u32) -> bool
     ensures { IsTrue result ↔ JoinsSizes sizes.now set children }
 {
@@ -72,6 +75,7 @@ fn joins(sizes: &[u32], set: u32, children: u32) -> bool
     }
 }
 
+#[inline(always)]
 fn note(sizes: &mut Vec<u32>, set: u32, children: u32) -> Result<(), AllocError>
     ensures ok { OnOk result (sizes.new.items ≡ noted sizes.old.items set children) }
     ensures err { OnErr result (sizes.new.items ≡ sizes.old.items) }
