@@ -33,7 +33,7 @@ use Rattle.xg_scale.specs.declared.nodes.PathWalk.{PathWalk}
 use Rattle.xg_scale.specs.declared.path.NodeOnPath.{NodeOnPath}
 use Rattle.xg_scale.specs.FaultOfFile.{RefusesBy}
 use Rattle.xg_scale.specs.Leaf.{judged_node, known_with, unit_with, with_expected}
-use Rattle.xg_scale.specs.OnPath.{GoesBackTo, HasNodeAround, at_action, chance_set_of, entered_node, empty_path}
+use Rattle.xg_scale.specs.OnPath.{GoesBackTo, HasNodeAround, at_action, chance_set_of, entered_node, empty_path, innermost_of}
 use Rattle.xg_scale.specs.Walked.{Enters, HasEntered, HasLeft, IsBefore, IsExpectedOf, Leaves, MayCome, MayComeNext, MayEnter, MayLeave, Steps, UnlessRefused, all_fit, known_sum, next_fault, numbers_at_next, numbers_below, numbers_on_path, reach_below}
 use Rattle.xg_scale.proofs.FoundLemmas.{found_later, found_none, refuses_here}
 use Rattle.xg_scale.proofs.GameLemmas.{goes_with, in_chance_set, tree_rules}
@@ -82,8 +82,7 @@ module _ (game : GameFile) (lowest : AreFractions (tables_of game)) (whole : IsW
 
   record GoesOn (n : ℕ) (innermost : NodeOnPath) (outer : List NodeOnPath) (walk : PathWalk) : Type 0 where
     passed : HasPassed n walk.expected
-    innermost_is : walk.innermost ≡ innermost
-    outer_is : walk.outer ≡ outer
+    path_is : walk.path ≡ innermost ∷ outer
 
   abbrev OrRefused : Option Refused → Type 0 → Type 0
   OrRefused (Some refused) On = RefusesBy found refused
@@ -222,7 +221,7 @@ module _ (game : GameFile) (lowest : AreFractions (tables_of game)) (whole : IsW
     module _ (outer : List NodeOnPath) (walk : PathWalk) (same : walk.game.now ≡ game)
         (on : GoesOn n (at_action parent action) outer walk) where
       numbers_are : numbers_at_next walk x ≡ numbers_on_path tables here
-      numbers_are = (λ i. numbers_below (tables_of (same i)) (on.innermost_is i) x) ∙ numbers_here
+      numbers_are = (λ i. numbers_below (tables_of (same i)) (innermost_of (on.path_is i)) x) ∙ numbers_here
 
       numbers_at_visit : numbers_at_next walk x ≡ numbers_on_path tables v
       numbers_at_visit = numbers_are ∙ ap (numbers_on_path tables) (sym first)
@@ -234,7 +233,7 @@ module _ (game : GameFile) (lowest : AreFractions (tables_of game)) (whole : IsW
 
       may_come_next : MayComeNext walk x
       may_come_next = record {
-        action = subst (λ g. MayCome g walk.innermost) (sym same) (subst (MayCome game) (sym on.innermost_is) may_come);
+        action = subst (λ g. MayCome g (innermost_of walk.path)) (sym same) (subst (λ path. MayCome game (innermost_of path)) (sym on.path_is) may_come);
         outcome = subst (λ (g : GameFile). x.outcome ≤ length g.outcomes) (sym same) (goes_with game whole n x read).outcome;
         from_one = omega (arith, on.passed.unit, unit_from_one tables lowest (take n all));
         limit = on.passed.limit;
@@ -254,8 +253,7 @@ module _ (game : GameFile) (lowest : AreFractions (tables_of game)) (whole : IsW
           limit = entered.limit;
           fractions = entered.fractions ∙ (λ i. on.passed.fractions i ++ with_expected x (numbers_at_visit i)) ∙ sym (expected_with tables lowest game.tree rules n there x read);
         };
-        innermost_is = entered.innermost ∙ ap (entered_node x) numbers_are;
-        outer_is = entered.outer ∙ (λ i. on.innermost_is i ∷ on.outer_is i);
+        path_is = entered.path ∙ (λ i. entered_node x (numbers_are i) ∷ on.path_is i);
       }
 
     may_enter_first : (outer : List NodeOnPath) (visitor : PathVisitor)
@@ -274,14 +272,13 @@ module _ (game : GameFile) (lowest : AreFractions (tables_of game)) (whole : IsW
         → GoesOn m inner (at_action parent action ∷ outer) old → HasLeft old new
         → GoesOn m (at_action parent (action + 1)) outer new
     goes_back m inner outer old new on left =
-        let back = subst (λ around. GoesBackTo around new.innermost new.outer) on.outer_is left.back in
-        record { passed = subst (HasPassed m) (sym left.expected) on.passed; innermost_is = back.0; outer_is = back.1 }
+        record { passed = subst (HasPassed m) (sym left.expected) on.passed; path_is = subst (λ path. GoesBackTo path new.path) on.path_is left.back }
 
     may_leave_first : (m : ℕ) (inner : NodeOnPath) (outer : List NodeOnPath) (visitor : PathVisitor)
         → Stands m inner (at_action parent action ∷ outer) visitor → MayLeave visitor (n + 1)
     may_leave_first m inner outer visitor s =
         let room : action + suc (tree_count beside) ≤ 1025 = next.room in
-        may_step visitor.refused s.stands (λ on. subst HasNodeAround (sym on.outer_is) (omega (arith, room)))
+        may_step visitor.refused s.stands (λ on. subst HasNodeAround (sym on.path_is) (omega (arith, room)))
 
     first_left : (m : ℕ) (inner : NodeOnPath) (outer : List NodeOnPath) (old new : PathVisitor)
         → Stands m inner (at_action parent action ∷ outer) old → Leaves old (n + 1) new
@@ -348,8 +345,7 @@ module _ (game : GameFile) (lowest : AreFractions (tables_of game)) (whole : IsW
     game_is = before.game_is;
     stands = subst (λ o. OrRefused o (GoesOn 0 empty_path [] visitor.walk)) (sym before.going) (record {
       passed = record { rest = refl; sum = before.sum; unit = before.unit ∙ sym (running tables lowest).start_unit; limit = omega (arith, before.unit); fractions = before.fractions };
-      innermost_is = before.innermost;
-      outer_is = before.outer;
+      path_is = before.path;
     });
   }
 

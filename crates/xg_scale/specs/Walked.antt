@@ -15,7 +15,7 @@ use Rattle.def_game_numbers.specs.Numbers.{tables_of}
 use Rattle.xg_game.specs.declared.fault.Refused.{Refused}
 use Rattle.xg_scale.specs.FaultOfFile.{RefusesBy}
 use Rattle.xg_scale.specs.Leaf.{judged_node, known_with, unit_with, with_expected}
-use Rattle.xg_scale.specs.OnPath.{GoesBackTo, HasNodeAround, entered_node, empty_path}
+use Rattle.xg_scale.specs.OnPath.{GoesBackTo, HasNodeAround, entered_node, empty_path, innermost_of}
 use Rattle.xg_scale.specs.declared.leaf.Expected.{Expected}
 use Rattle.xg_scale.specs.declared.nodes.PathVisitor.{PathVisitor}
 use Rattle.xg_scale.specs.declared.nodes.PathWalk.{PathWalk}
@@ -62,14 +62,14 @@ MayCome game parent = (set : ℕ) → parent.chance_set ≡ Some set →
 
 -- the node may be the next child of the innermost
 pub record MayComeNext (walk : PathWalk) (node : Node) : Type 0 where
-  pub action : MayCome walk.game.now walk.innermost
+  pub action : MayCome walk.game.now (innermost_of walk.path)
   pub outcome : node.outcome ≤ length walk.game.now.outcomes
   pub from_one : 1 ≤ walk.expected.unit
   pub limit : walk.expected.unit ≤ most
 
 -- the numbers of its path
 abbrev pub numbers_at_next : PathWalk → Node → PathNumbers
-numbers_at_next walk node = numbers_below (tables_of walk.game.now) walk.innermost node
+numbers_at_next walk node = numbers_below (tables_of walk.game.now) (innermost_of walk.path) node
 
 -- what is wrong at it, under its number
 abbrev pub next_fault : PathWalk → ℕ → Node → Option GameFault
@@ -83,13 +83,12 @@ pub record HasEntered (old : PathWalk) (k : ℕ) (node : Node) (new : PathWalk) 
   pub unit : new.expected.unit ≡ unit_with node old.expected.sum old.expected.unit (numbers_at_next old node)
   pub limit : new.expected.unit ≤ most
   pub fractions : new.expected.fractions.items ≡ old.expected.fractions.items ++ with_expected node (numbers_at_next old node)
-  pub innermost : new.innermost ≡ entered_node node (numbers_at_next old node)
-  pub outer : new.outer ≡ old.innermost ∷ old.outer
+  pub path : new.path ≡ entered_node node (numbers_at_next old node) ∷ old.path
 
 -- the innermost is left
 pub record HasLeft (old new : PathWalk) : Type 0 where
   pub expected : new.expected ≡ old.expected
-  pub back : GoesBackTo old.outer new.innermost new.outer
+  pub back : GoesBackTo old.path new.path
 
 -- a step of a visitor, which does nothing more once it was refused to go on
 abbrev pub Steps : Option Refused → Option Refused → (Refused → Type 0) → Type 0 → Type 0
@@ -109,7 +108,7 @@ Enters old k node new =
     (new.walk.game.now ≡ old.walk.game.now) × Steps old.refused new.refused (RefusesBy (next_fault old.walk k node)) (HasEntered old.walk k node new.walk)
 
 abbrev pub MayLeave : PathVisitor → ℕ → Type 0
-MayLeave visitor k = UnlessRefused visitor.refused (HasNodeAround visitor.walk.outer)
+MayLeave visitor k = UnlessRefused visitor.refused (HasNodeAround visitor.walk.path)
 
 abbrev pub Leaves : PathVisitor → ℕ → PathVisitor → Type 0
 Leaves old k new = (new.walk.game.now ≡ old.walk.game.now) × Steps old.refused new.refused (λ _. ⊥) (HasLeft old.walk new.walk)
@@ -118,8 +117,7 @@ Leaves old k new = (new.walk.game.now ≡ old.walk.game.now) × Steps old.refuse
 pub record IsBefore (game : GameFile) (visitor : PathVisitor) : Type 0 where
   pub going : visitor.refused ≡ None
   pub game_is : visitor.walk.game.now ≡ game
-  pub innermost : visitor.walk.innermost ≡ empty_path
-  pub outer : visitor.walk.outer ≡ []
+  pub path : visitor.walk.path ≡ empty_path ∷ []
   pub sum : visitor.walk.expected.sum ≡ None
   pub unit : visitor.walk.expected.unit ≡ 1
   pub fractions : visitor.walk.expected.fractions.items ≡ []

@@ -41,7 +41,7 @@ pub(crate) fn check_sets(game: &Game, test: SetTest) -> Result<(), FileFault>
 fn opens_set(node: Node, seen: u32) -> bool
     ensures { result ≡ is_same_kind Kind.Chance node.kind && nat_lt seen node.set }
 {
-    matches!(node.kind, Kind::Chance) && node.set > seen
+    node.set > seen && matches!(node.kind, Kind::Chance)
 }
 
 /// Asks a set, whose first node is `node`.

@@ -25,6 +25,7 @@ pub(crate) struct Expected {
 
 impl Expected {
     /// Judges node `k`. What a leaf is expected to pay comes last.
+    #[inline(always)]
     pub(crate) fn judge(&mut self, k: u32, node: Node, numbers: &PathNumbers) -> Result<(), Refused>
         requires from_one { 1 ≤ self.old.unit }
         requires limit { self.old.unit ≤ most }
@@ -58,6 +59,7 @@ struct LeafNumbers {
 }
 
 /// Judges a leaf, where `known` is what the first one pays both players together, and is none at the first one.
+#[inline(always)]
 fn judge_leaf(
     k: u32,
     known: Option<Frac>,
@@ -94,6 +96,7 @@ fn judge_leaf(
 }
 
 /// The unit so far with the denominators of the sum and of what a leaf is expected to pay.
+#[inline(always)]
 fn unit_with_leaf(sum: Frac, expected: Frac, so_far: u64) -> Result<u64, OverLimit>
     requires from_one { 1 ≤ so_far }
     requires limit { so_far ≤ most }
@@ -107,6 +110,7 @@ fn unit_with_leaf(sum: Frac, expected: Frac, so_far: u64) -> Result<u64, OverLim
 }
 
 /// The least common multiple of a denominator and the unit so far, which it mostly divides.
+#[inline(always)]
 fn unit_with(denominator: u64, so_far: u64) -> Result<u64, OverLimit>
     requires from_one { (1 ≤ denominator) × (1 ≤ so_far) }
     requires within { (denominator ≤ most) × (so_far ≤ most) }
@@ -127,6 +131,7 @@ fn divides(divisor: u64, n: u64) -> bool
 }
 
 /// The sum, which is mostly 0.
+#[inline(always)]
 fn together(a: Frac, b: Frac) -> Result<Frac, OverLimit>
     ensures { OkIff result (IsTrue (fits (sum_of a b))) (sum_of a b) }
 {

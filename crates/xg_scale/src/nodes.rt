@@ -1,19 +1,19 @@
 //! The walk over all nodes: the reach and the payoffs of each path, what leaves pay both players together, and the unit.
-ghost use Rattle.std.specs.Prelude.{◌≡◌, ◌+◌, ◌<◌, ◌≤◌, ◌^◌, [], length, IfErr, IfOk, IsTrue, OkIff, OnOk};
+ghost use Rattle.std.specs.Prelude.{◌≡◌, ◌≤◌, [], length, IfErr, IfOk, IsTrue, OkIff, OnOk};
 ghost use Rattle.def_fraction.specs.Fraction.{fits, sum_of};
 ghost use Rattle.def_game_scale.specs.Faults.{found_by, node_fault};
 ghost use Rattle.def_game_numbers.specs.Numbers.{tables_of};
 ghost use Rattle.def_game_paths.specs.Paths.{visits};
 ghost use Rattle.def_game_scale.specs.Tables.{AreFractions, payoffs_of};
 ghost use Rattle.xg_scale.specs.FaultOfFile.{RefusesBy};
-ghost use Rattle.xg_scale.specs.OnPath.{HasNodeAround, at_action, chance_set_of, entered_node, empty_path};
+ghost use Rattle.xg_scale.specs.OnPath.{HasNodeAround, chance_set_of, entered_node};
 ghost use Rattle.xg_scale.specs.Walked.{HasEntered, HasLeft, IsBefore, IsExpectedOf, MayCome, MayComeNext, all_fit, next_fault, numbers_below, paid_to, reach_below};
 
 use crate::leaf::Expected;
 use crate::parts::known;
-use crate::path::{NodeOnPath, OuterNodes, PathNumbers};
+use crate::path::{NodeOnPath, Path, PathNumbers};
 use std::alloc::{AllocError, Global};
-use xg_frac::{Frac, OverLimit, add, mul, one_over, zero};
+use xg_frac::{Frac, OverLimit, add, mul};
 use xg_game::{FileFault, Game, Kind, Player, Refused};
 use xg_tree::{Node, Visitor};
 
@@ -47,8 +47,7 @@ impl<'a> PathVisitor<'a> {
         let fractions = Vec::with_capacity(alloc, game.tree().leaves() as usize)?;
         let walk = PathWalk {
             game,
-            innermost: empty_path(),
-            outer: OuterNodes::new(alloc),
+            path: Path::new(alloc)?,
             expected: Expected {
                 sum: None,
                 unit: 1,
@@ -92,57 +91,40 @@ impl<'a> Visitor for PathVisitor<'a> {
 #[derive(Drop)]
 struct PathWalk<'a> {
     game: &'a Game,
-    innermost: NodeOnPath,
-    outer: OuterNodes,
+    path: Path,
     expected: Expected,
 }
 
 impl<'a> PathWalk<'a> {
     /// Judges node `k`, which comes next, and goes on below it.
+    #[inline(always)]
     fn enter(&mut self, k: u32, node: Node) -> Result<(), Refused>
         requires { MayComeNext self.old node }
         ensures game { self.new.game.now ≡ self.old.game.now }
         ensures ok { OnOk result (HasEntered self.old k node self.new) }
         ensures err { IfErr result (RefusesBy (next_fault self.old k node)) }
     {
-        let Ok(numbers) = numbers_at(self.game, &self.innermost, node) else {
+        let Ok(numbers) = numbers_at(self.game, self.path.innermost(), node) else {
             return Err(Refused::File(FileFault::Scale { node: k }));
         };
         self.expected.judge(k, node, &numbers)?;
-        self.outer.push(self.innermost)?;
-        self.innermost = before_children(node, numbers);
+        self.path.enter(before_children(node, numbers))?;
         Ok(())
     }
 
     /// Goes back to the node around the innermost, at its next action.
+    #[inline(always)]
     fn leave(&mut self)
-        requires { HasNodeAround self.old.outer }
+        requires { HasNodeAround self.old.path }
         ensures game { self.new.game.now ≡ self.old.game.now }
         ensures left { HasLeft self.old self.new }
     {
-        let Some(around) = self.outer.pop() else {
-            unreachable!()
-        };
-        self.innermost = after_child(&around);
-    }
-}
-
-/// What is around the whole tree.
-fn empty_path() -> NodeOnPath
-    ensures { result ≡ empty_path }
-{
-    NodeOnPath {
-        chance_set: None,
-        action: 1,
-        numbers: PathNumbers {
-            reach: one_over(1),
-            one: zero(),
-            two: zero(),
-        },
+        self.path.leave();
     }
 }
 
 /// The node before its first child.
+#[inline(always)]
 fn before_children(node: Node, numbers: PathNumbers) -> NodeOnPath
     ensures { result ≡ entered_node node numbers }
 {
@@ -153,18 +135,7 @@ fn before_children(node: Node, numbers: PathNumbers) -> NodeOnPath
     }
 }
 
-/// The node at its next action.
-fn after_child(node: &NodeOnPath) -> NodeOnPath
-    requires { node.now.action + 1 < 2 ^ 32 }
-    ensures { result ≡ at_action node.now (node.now.action + 1) }
-{
-    NodeOnPath {
-        chance_set: node.chance_set,
-        action: node.action + 1,
-        numbers: node.numbers,
-    }
-}
-
+#[inline(always)]
 fn chance_set(node: Node) -> Option<u32>
     ensures { result ≡ chance_set_of node }
 {
@@ -175,6 +146,7 @@ fn chance_set(node: Node) -> Option<u32>
 }
 
 /// The numbers at the next child of a node.
+#[inline(always)]
 fn numbers_at(game: &Game, above: &NodeOnPath, node: Node) -> Result<PathNumbers, OverLimit>
     requires action { MayCome game.now above.now }
     requires outcome { node.outcome ≤ length game.now.outcomes }
@@ -188,6 +160,7 @@ fn numbers_at(game: &Game, above: &NodeOnPath, node: Node) -> Result<PathNumbers
 }
 
 /// The reach of the next child.
+#[inline(always)]
 fn reach_at(game: &Game, above: &NodeOnPath) -> Result<Frac, OverLimit>
     requires { MayCome game.now above.now }
     ensures { let so_far = above.now.numbers.reach in
@@ -201,6 +174,7 @@ fn reach_at(game: &Game, above: &NodeOnPath) -> Result<Frac, OverLimit>
 }
 
 /// What a player has been paid, with the payoff of an outcome.
+#[inline(always)]
 fn paid(game: &Game, so_far: Frac, outcome: u32, player: Player) -> Result<Frac, OverLimit>
     requires { outcome ≤ length game.now.outcomes }
     ensures { let exact = sum_of so_far (paid_to player (payoffs_of (tables_of game.now) outcome)) in

@@ -1,9 +1,10 @@
 //! The nodes on the path that a walk stands at.
-ghost use Rattle.std.specs.Prelude.{◌≡◌, [], ◌∷◌, IfSome, IsNone, OnOk};
+ghost use Rattle.std.specs.Prelude.{◌≡◌, ◌+◌, ◌<◌, ◌^◌, [], ◌∷◌, IfOk, OnOk};
+ghost use Rattle.xg_scale.specs.OnPath.{GoesBackTo, HasNodeAround, at_action, empty_path, innermost_of};
 
 use std::alloc::{AllocError, Global};
 use std::marker::Model;
-use xg_frac::Frac;
+use xg_frac::{Frac, one_over, zero};
 
 /// The reach of a path, and what both players are paid on it.
 #[derive(Clone, Copy)]
@@ -23,41 +24,85 @@ pub(crate) struct NodeOnPath {
     pub(crate) numbers: PathNumbers,
 }
 
-/// The nodes around the innermost one, each within the ones before it.
+/// The nodes on the path, behind what is around the whole tree. The innermost stands last.
 #[derive(Drop)]
-pub(crate) struct OuterNodes {
+pub(crate) struct Path {
     nodes: Vec<NodeOnPath>,
 }
 
-impl Model for OuterNodes {
-    ghost use Rattle.std.specs.Prelude.{List, reverse};
+impl Model for Path {
+    ghost use Rattle.std.specs.Prelude.{◌≤◌, List, length, reverse};
     ghost use Rattle.xg_scale.specs.declared.path.NodeOnPath.{NodeOnPath};
 
     ghost Value = { List NodeOnPath };
 
-    ghost view = { λ o. reverse o.nodes.items };
+    ghost view = { λ p. reverse p.nodes.items };
+
+    ghost invariant = { λ p. 1 ≤ length p.nodes.items };
 }
 
-impl OuterNodes {
-    pub(crate) fn new(alloc: Global) -> OuterNodes
-        ensures { result ≡ [] }
+impl Path {
+    /// No node was entered yet.
+    pub(crate) fn new(alloc: Global) -> Result<Path, AllocError>
+        ensures { IfOk result (λ path. path ≡ empty_path ∷ []) }
     {
-        OuterNodes {
-            nodes: Vec::new(alloc),
-        }
+        Ok(Path {
+            nodes: vec![in alloc; empty_path(); 1]?,
+        })
     }
 
-    pub(crate) fn push(&mut self, node: NodeOnPath) -> Result<(), AllocError>
+    /// The innermost node.
+    #[inline(always)]
+    pub(crate) fn innermost(&self) -> &NodeOnPath
+        ensures { result.now ≡ innermost_of self.now }
+    {
+        &self.nodes[self.nodes.len() - 1]
+    }
+
+    /// Goes on below a node, which is the innermost then.
+    #[inline(always)]
+    pub(crate) fn enter(&mut self, node: NodeOnPath) -> Result<(), AllocError>
         ensures { OnOk result (self.new ≡ node ∷ self.old) }
     {
         self.nodes.push(node)?;
         Ok(())
     }
 
-    pub(crate) fn pop(&mut self) -> Option<NodeOnPath>
-        ensures some { IfSome result (λ node. self.old ≡ node ∷ self.new) }
-        ensures none { IsNone result → self.old ≡ [] }
+    /// Leaves the innermost node and goes on at the next action of the node around it.
+    #[inline(always)]
+    pub(crate) fn leave(&mut self)
+        requires { HasNodeAround self.old }
+        ensures { GoesBackTo self.old self.new }
     {
-        self.nodes.pop()
+        let _innermost = self.nodes.pop();
+        let last = self.nodes.len() - 1;
+        self.nodes[last] = after_child(&self.nodes[last]);
+    }
+}
+
+/// What is around the whole tree.
+fn empty_path() -> NodeOnPath
+    ensures { result ≡ empty_path }
+{
+    NodeOnPath {
+        chance_set: None,
+        action: 1,
+        numbers: PathNumbers {
+            reach: one_over(1),
+            one: zero(),
+            two: zero(),
+        },
+    }
+}
+
+/// The node at its next action.
+fn after_child(node: &NodeOnPath) -> NodeOnPath
+    requires { node.now.action + 1 < 2 ^ 32 }
+    ensures { result ≡ at_action node.now (node.now.action + 1) }
+{
+    NodeOnPath {
+        chance_set: node.chance_set,
+        action: node.action + 1,
+        numbers: node.numbers,
     }
 }
