@@ -1,3 +1,4 @@
 pub mod Gives
 pub mod Wanted
 pub mod Mentions
+pub mod Entries

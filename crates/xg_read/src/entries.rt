@@ -1,14 +1,16 @@
 //! The entries of a file.
 ghost use Rattle.def_fraction.specs.Fraction.{most};
-ghost use Rattle.std.specs.Prelude.{◌≡◌, ◌≤◌, [], IfOk};
-ghost use Rattle.def_file.specs.Reading.{chance_entry_at, entry_at, entry_behind, outcome_mention_at, personal_entry_at, set_mention_at, terminal_entry_at};
+ghost use Rattle.std.specs.Prelude.{◌≡◌, ◌≤◌, [], IfOk, true};
+ghost use Rattle.def_file.specs.Faults.{has_set};
+ghost use Rattle.def_file.specs.Reading.{entry_at, outcome_mention_at, set_mention_at};
 ghost use Rattle.xg_record.specs.Entry.{entry_seen};
-ghost use Rattle.xg_read.specs.Gives.{GivesFor};
+ghost use Rattle.xg_read.specs.Entries.{kind_at, mover_at, parts_at, set_at};
+ghost use Rattle.xg_read.specs.Gives.{Gives, GivesFor};
 ghost use Rattle.xg_read.specs.Mentions.{HasNumbers, outcome_mention_of, set_mention_of};
 
 use crate::reader::Reader;
 use crate::wanted::Wanted;
-use def_file::EntryKind;
+use def_file::{EntryKind, FileFault};
 use std::alloc::Global;
 use xg_game::Refused;
 use xg_lex::{TextView, Token};
@@ -99,66 +101,81 @@ impl<'a> Reader<'a> {
         })
     }
 
-    /// A chance entry behind its word.
-    #[tactic(auto, unfolding(def_file::specs::Reading::chance_entry_at))]
+    /// The kind of an entry, by its word.
+    #[tactic(auto, unfolding(crate::specs::Entries::kind_at))]
     #[inline(always)]
-    fn chance_entry<'l>(&mut self, lists: &'l mut Lists<'a>) -> Result<EntryView<'l>, Refused>
-    where
-        'a: 'l,
-        ensures exact { GivesFor entry_seen result self.new.at (chance_entry_at self.old.whole self.old.at) }
+    fn kind(&mut self) -> Result<EntryKind, FileFault>
+        ensures exact { Gives result self.new.at (kind_at self.old.whole self.old.at) }
         ensures whole { self.new.whole ≡ self.old.whole }
-        ensures numbers { IfOk result HasNumbers }
     {
-        let name = self.next_view()?;
-        let set = self.set_mention(EntryKind::Chance, &mut lists.actions)?;
-        let outcome = self.outcome_mention(&mut lists.payoffs)?;
-        Ok(with_set(self.bytes(), EntryKind::Chance, name, 0, set, outcome))
+        let head = self.token(Wanted::Head)?;
+        if self.is_exact(Token::Word, b"c", head) {
+            return Ok(EntryKind::Chance);
+        }
+        if self.is_exact(Token::Word, b"p", head) {
+            return Ok(EntryKind::Personal);
+        }
+        Ok(EntryKind::Leaf)
     }
 
-    /// A personal entry behind its word.
-    #[tactic(auto, unfolding(def_file::specs::Reading::personal_entry_at))]
+    /// The player, where one moves, and else 0.
     #[inline(always)]
-    fn personal_entry<'l>(&mut self, lists: &'l mut Lists<'a>) -> Result<EntryView<'l>, Refused>
-    where
-        'a: 'l,
-        ensures exact { GivesFor entry_seen result self.new.at (personal_entry_at self.old.whole self.old.at) }
+    fn mover(&mut self, kind: EntryKind) -> Result<u64, FileFault>
+        ensures exact { Gives result self.new.at (mover_at kind self.old.whole self.old.at) }
         ensures whole { self.new.whole ≡ self.old.whole }
-        ensures numbers { IfOk result HasNumbers }
     {
-        let name = self.next_view()?;
-        let player = self.whole_number()?;
-        let set = self.set_mention(EntryKind::Personal, &mut lists.actions)?;
-        let outcome = self.outcome_mention(&mut lists.payoffs)?;
-        Ok(with_set(
-            self.bytes(),
-            EntryKind::Personal,
-            name,
-            player,
-            set,
-            outcome,
-        ))
+        match kind {
+            EntryKind::Personal => self.whole_number(),
+            EntryKind::Chance | EntryKind::Leaf => Ok(0),
+        }
     }
 
-    /// A terminal entry behind its word.
-    #[tactic(auto, unfolding(def_file::specs::Reading::terminal_entry_at))]
+    /// What is said of the set, where there is one.
     #[inline(always)]
-    fn terminal_entry<'l>(&mut self, lists: &'l mut Lists<'a>) -> Result<EntryView<'l>, Refused>
+    fn set<'l>(
+        &mut self,
+        kind: EntryKind,
+        actions: &'l mut ActionViews<'a>,
+    ) -> Result<SetMention<'l>, Refused>
     where
         'a: 'l,
-        ensures exact { GivesFor entry_seen result self.new.at (terminal_entry_at self.old.whole self.old.at) }
+        ensures exact { GivesFor set_mention_of result self.new.at (set_at kind self.old.whole self.old.at) }
+        ensures whole { self.new.whole ≡ self.old.whole }
+        ensures numbers { IfOk result (λ set. has_set kind ≡ true → (1 ≤ set.number) × (set.number ≤ most)) }
+    {
+        match kind {
+            EntryKind::Leaf => Ok(SetMention {
+                number: 0,
+                name: None,
+                actions: None,
+            }),
+            EntryKind::Chance | EntryKind::Personal => self.set_mention(kind, actions),
+        }
+    }
+
+    /// The next entry, part by part.
+    #[tactic(auto, unfolding(crate::specs::Entries::parts_at))]
+    #[inline(always)]
+    fn entry_parts<'l>(&mut self, lists: &'l mut Lists<'a>) -> Result<EntryView<'l>, Refused>
+    where
+        'a: 'l,
+        ensures exact { GivesFor entry_seen result self.new.at (parts_at self.old.whole self.old.at) }
         ensures whole { self.new.whole ≡ self.old.whole }
         ensures numbers { IfOk result HasNumbers }
     {
+        let kind = self.kind()?;
         let name = self.next_view()?;
+        let player = self.mover(kind)?;
+        let set = self.set(kind, &mut lists.actions)?;
         let outcome = self.outcome_mention(&mut lists.payoffs)?;
         Ok(EntryView {
             file: self.bytes(),
-            kind: EntryKind::Leaf,
+            kind,
             name,
-            player: 0,
-            set: 0,
-            set_name: None,
-            actions: None,
+            player,
+            set: set.number,
+            set_name: set.name,
+            actions: set.actions,
             outcome: outcome.number,
             outcome_name: outcome.name,
             payoffs: outcome.payoffs,
@@ -166,7 +183,6 @@ impl<'a> Reader<'a> {
     }
 
     /// The next entry. Its lists are read into `lists`.
-    #[tactic(auto, unfolding(def_file::specs::Reading::entry_at))]
     #[inline(always)]
     pub fn entry<'l>(&mut self, lists: &'l mut Lists<'a>) -> Result<EntryView<'l>, Refused>
     where
@@ -175,45 +191,6 @@ impl<'a> Reader<'a> {
         ensures whole { self.new.whole ≡ self.old.whole }
         ensures numbers { IfOk result HasNumbers }
     {
-        let head = self.token(Wanted::Head)?;
-        if self.is_exact(Token::Word, b"c", head) {
-            return self.chance_entry(lists);
-        }
-        if self.is_exact(Token::Word, b"p", head) {
-            return self.personal_entry(lists);
-        }
-        self.terminal_entry(lists)
-    }
-}
-
-/// The entry of a node with a set.
-#[inline(always)]
-fn with_set<'a>(
-    file: &'a [u8],
-    kind: EntryKind,
-    name: TextView<'a>,
-    player: u64,
-    set: SetMention<'a>,
-    outcome: OutcomeMention<'a>,
-) -> EntryView<'a>
-    ensures { entry_seen result ≡ record {
-      kind = kind;
-      name = name.entry;
-      player = player;
-      set = set_mention_of set.entry;
-      outcome = outcome_mention_of outcome.entry;
-    } }
-{
-    EntryView {
-        file,
-        kind,
-        name,
-        player,
-        set: set.number,
-        set_name: set.name,
-        actions: set.actions,
-        outcome: outcome.number,
-        outcome_name: outcome.name,
-        payoffs: outcome.payoffs,
+        self.entry_parts(lists)
     }
 }
