@@ -7,14 +7,14 @@ use Rattle.def_file.specs.declared.EntryKind.TheVariants.{Chance, Personal, Leaf
 use Rattle.def_file.specs.declared.FileFault.{FileFault}
 use Rattle.def_file.specs.Content.{Record}
 use Rattle.def_file.specs.Reading.{◌>>=◌, begins_entry, chance_entry_at, entry_at, entry_behind, is_exact, outcome_mention_at, personal_entry_at, terminal_entry_at, text_at, token_where}
-use Rattle.xg_read.specs.Entries.{kind_at, kind_of, mover_at, parts_at, set_at}
+use Rattle.xg_read.specs.Entries.{kind_at, kind_of, mover_at, parts_at, set_part_at}
 
 -- the parts behind the word of an entry of this kind
 abbrev behind_word : EntryKind → List ℕ → ℕ → Result (Record × ℕ) FileFault
 behind_word kind whole at = do
   name ← text_at whole at
   player ← mover_at kind whole name.1
-  set ← set_at kind whole player.1
+  set ← set_part_at kind whole player.1
   outcome ← outcome_mention_at whole set.1
   Ok (record { kind = kind; name = name.0; player = player.0; set = set.0; outcome = outcome.0 }, outcome.1)
 

@@ -25,10 +25,10 @@ mover_at Personal whole at = whole_at whole at
 mover_at Leaf whole at = Ok (0, at)
 
 -- what is said of the set, where there is one
-abbrev pub set_at : EntryKind → List ℕ → ℕ → Result (SetMention × ℕ) FileFault
-set_at Chance whole at = set_mention_at Chance whole at
-set_at Personal whole at = set_mention_at Personal whole at
-set_at Leaf whole at = Ok (no_set_mention, at)
+abbrev pub set_part_at : EntryKind → List ℕ → ℕ → Result (SetMention × ℕ) FileFault
+set_part_at Chance whole at = set_mention_at Chance whole at
+set_part_at Personal whole at = set_mention_at Personal whole at
+set_part_at Leaf whole at = Ok (no_set_mention, at)
 
 -- an entry, as entry_at reads it
 unfoldable pub parts_at : List ℕ → ℕ → Result (Record × ℕ) FileFault
@@ -36,6 +36,6 @@ parts_at whole at = do
   kind ← kind_at whole at
   name ← text_at whole kind.1
   player ← mover_at kind.0 whole name.1
-  set ← set_at kind.0 whole player.1
+  set ← set_part_at kind.0 whole player.1
   outcome ← outcome_mention_at whole set.1
   Ok (record { kind = kind.0; name = name.0; player = player.0; set = set.0; outcome = outcome.0 }, outcome.1)

@@ -4,7 +4,7 @@ ghost use Rattle.std.specs.Prelude.{◌≡◌, ◌≤◌, [], IfOk, true};
 ghost use Rattle.def_file.specs.Faults.{has_set};
 ghost use Rattle.def_file.specs.Reading.{entry_at, outcome_mention_at, set_mention_at};
 ghost use Rattle.xg_record.specs.Entry.{entry_seen};
-ghost use Rattle.xg_read.specs.Entries.{kind_at, mover_at, parts_at, set_at};
+ghost use Rattle.xg_read.specs.Entries.{kind_at, mover_at, parts_at, set_part_at};
 ghost use Rattle.xg_read.specs.Gives.{Gives, GivesFor};
 ghost use Rattle.xg_read.specs.Mentions.{HasNumbers, outcome_mention_of, set_mention_of};
 
@@ -139,7 +139,7 @@ impl<'a> Reader<'a> {
     ) -> Result<SetMention<'l>, Refused>
     where
         'a: 'l,
-        ensures exact { GivesFor set_mention_of result self.new.at (set_at kind self.old.whole self.old.at) }
+        ensures exact { GivesFor set_mention_of result self.new.at (set_part_at kind self.old.whole self.old.at) }
         ensures whole { self.new.whole ≡ self.old.whole }
         ensures numbers { IfOk result (λ set. has_set kind ≡ true → (1 ≤ set.number) × (set.number ≤ most)) }
     {

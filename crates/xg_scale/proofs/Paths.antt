@@ -47,11 +47,11 @@ along (innermost ∷ around ∷ further) nodes kept taken default path has is so
     last_set kept further around left (at_action node (node.action + 1)) ∙ ap (λ (n : NodeOnPath). at_action n (n.action + 1) ∷ further) (last_is kept further around left default)
 
 -- the innermost is taken away, and the one around it put at its next action
-pub goes_back : (path nodes kept : List NodeOnPath) (taken : Option NodeOnPath) (last : ℕ) (around next : NodeOnPath)
+pub around_goes_on : (path nodes kept : List NodeOnPath) (taken : Option NodeOnPath) (last : ℕ) (around next : NodeOnPath)
     → reverse nodes ≡ path → HasNodeAround path → nodes ≡ kept ++ option_to_list taken → IsSome taken
     → last ≡ length kept - 1 → around ≡ slice_index_or kept last around → next ≡ at_action around (around.action + 1)
     → GoesBackTo path (reverse (slice_set kept last next))
-goes_back path nodes kept taken last around next path_is has is some place there put =
+around_goes_on path nodes kept taken last around next path_is has is some place there put =
     let index : length kept - 1 ≡ last = sym place in
     let node_is : slice_index_or kept (length kept - 1) around ≡ around = ap (λ n. slice_index_or kept n around) index ∙ sym there in
     subst (λ new. GoesBackTo path (reverse new))

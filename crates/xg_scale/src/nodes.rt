@@ -11,7 +11,7 @@ ghost use Rattle.xg_scale.specs.Walked.{HasEntered, HasLeft, IsBefore, IsExpecte
 
 use crate::leaf::Expected;
 use crate::parts::known;
-use crate::path::{NodeOnPath, Path, PathNumbers};
+use crate::path::{NodeOnPath, PathNodes, PathNumbers};
 use std::alloc::{AllocError, Global};
 use xg_frac::{Frac, OverLimit, add, mul};
 use xg_game::{FileFault, Game, Kind, Player, Refused};
@@ -47,7 +47,7 @@ impl<'a> PathVisitor<'a> {
         let fractions = Vec::with_capacity(alloc, game.tree().leaves() as usize)?;
         let walk = PathWalk {
             game,
-            path: Path::new(alloc)?,
+            path: PathNodes::new(alloc)?,
             expected: Expected {
                 sum: None,
                 unit: 1,
@@ -91,7 +91,7 @@ impl<'a> Visitor for PathVisitor<'a> {
 #[derive(Drop)]
 struct PathWalk<'a> {
     game: &'a Game,
-    path: Path,
+    path: PathNodes,
     expected: Expected,
 }
 

@@ -26,11 +26,11 @@ pub(crate) struct NodeOnPath {
 
 /// The nodes on the path, behind what is around the whole tree. The innermost stands last.
 #[derive(Drop)]
-pub(crate) struct Path {
+pub(crate) struct PathNodes {
     nodes: Vec<NodeOnPath>,
 }
 
-impl Model for Path {
+impl Model for PathNodes {
     ghost use Rattle.std.specs.Prelude.{◌≤◌, List, length, reverse};
     ghost use Rattle.xg_scale.specs.declared.path.NodeOnPath.{NodeOnPath};
 
@@ -41,12 +41,12 @@ impl Model for Path {
     ghost invariant = { λ p. 1 ≤ length p.nodes.items };
 }
 
-impl Path {
+impl PathNodes {
     /// No node was entered yet.
-    pub(crate) fn new(alloc: Global) -> Result<Path, AllocError>
+    pub(crate) fn new(alloc: Global) -> Result<PathNodes, AllocError>
         ensures { IfOk result (λ path. path ≡ empty_path ∷ []) }
     {
-        Ok(Path {
+        Ok(PathNodes {
             nodes: vec![in alloc; empty_path(); 1]?,
         })
     }
