@@ -1,3 +1,4 @@
+pub mod AtOnce
 pub mod SetLines
 pub mod Written
 pub mod Pieces
