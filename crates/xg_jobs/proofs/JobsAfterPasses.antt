@@ -1,12 +1,12 @@
 -- The jobs after some passes.
-use Rattle.std.proofs.Common.{◌≡◌, ℕ, zero, suc, ◌+◌, ◌-◌, ◌≤◌, List, [], ◌∷◌, sym, ap, ◌∙◌, arith}
+use Rattle.std.proofs.Common.{◌≡◌, ℕ, zero, suc, ◌+◌, ◌-◌, ◌≤◌, [], ◌∷◌, sym, ap, subst, ◌∙◌, arith}
 use Rattle.std.proofs.lemmas.List.{append-nil}
 use Rattle.def_history.specs.Jobs.{jobs_within, pass}
 use Rattle.def_history.proofs.Passes.{passes-suc}
-use Rattle.def_tree.specs.Tree.{Forest, tree_count}
-use Rattle.xg_jobs.specs.declared.tops.TopNode.{TopNode}
-use Rattle.xg_jobs.specs.Cutting.{AreJobs}
-use Rattle.xg_jobs.specs.Tops.{tops_from}
+use Rattle.def_tree.specs.Links.{children}
+use Rattle.def_tree.specs.Tree.{Forest, IsTree, node_count, prefix}
+use Rattle.xg_jobs.specs.Cutting.{AreJobs, NoLeafBetween}
+use Rattle.xg_jobs.proofs.StandingTrees.{same_node}
 
 -- the jobs after one more pass are those that a pass makes of the jobs before it
 pub within_more : (limit n : ℕ) (tree : Forest) → jobs_within limit (n + 1) tree ≡ pass limit (jobs_within limit n tree)
@@ -26,6 +26,22 @@ pub within_end : (limit n m : ℕ) (tree : Forest) → n ≤ m
 within_end limit n m tree h same = let e : n + (m - n) ≡ m = omega arith in sym (keeps limit n (m - n) tree same) ∙ ap (λ k. jobs_within limit k tree) e
 
 -- at first the whole tree is one job
-pub whole_job : (tops : List TopNode) (tree : Forest) → tops ≡ tops_from 0 tree → tree_count tree ≡ 1
-    → AreJobs tops (0 ∷ []) (tree ∷ [])
-whole_job tops tree are one = (record { one = one; there = record { rest = []; here = are ∙ sym (append-nil (tops_from 0 tree)) } }, tt)
+pub whole_job : (tree : Forest) → IsTree tree → AreJobs tree (1 ∷ []) (tree ∷ [])
+whole_job tree is = (
+  record {
+    one = is.one;
+    there = record {
+      from_one = omega arith;
+      later_nodes = [];
+      nodes = sym (append-nil (prefix tree));
+      later_children = [];
+      children_are = sym (append-nil (children tree));
+      whole = is.children;
+    };
+    before = same_node tree 1;
+  },
+  subst (λ n. NoLeafBetween tree n (node_count tree + 1)) behind (same_node tree (node_count tree + 1)),
+)
+  where
+    behind : node_count tree + 1 ≡ 1 + node_count tree
+    behind = omega arith

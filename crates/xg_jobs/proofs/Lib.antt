@@ -10,9 +10,8 @@ mod OneEntry
 pub mod Greatest
 mod Building
 mod FormRows
-mod Visiting
-mod Gathering
-mod TopNodesOfTrees
+mod StandingTrees
+mod LinkedChildren
 mod OnePassOverJobs
 mod JobsAfterPasses
 mod Ranging

@@ -1,118 +1,178 @@
--- One pass over the jobs, by the places of their top nodes.
-use Rattle.std.proofs.Common.{◌≡◌, ℕ, zero, suc, ◌+◌, ◌-◌, ◌<◌, ◌≤◌, Bool, true, false, cond, ◌&&◌, nat_le, List, [], ◌∷◌, ◌++◌, length, get_or, drop, refl, sym, ap, subst, ◌∙◌, arith}
+-- One pass over the jobs, by the numbers of their top nodes.
+use Rattle.std.proofs.Common.{◌≡◌, ℕ, suc, ◌+◌, ◌-◌, ◌≤◌, Bool, true, false, cond, ◌&&◌, nat_le, List, [], ◌∷◌, ◌++◌, length, drop, refl, sym, ap, subst, ◌∙◌, arith, Some, slice_get}
 use Rattle.std.proofs.lemmas.List.{append_assoc, append-nil}
 use Rattle.std.proofs.lemmas.Bool.Decides.{nat_tests}
 use Rattle.def_history.specs.Jobs.{count_after, cut_each, each_tree, is_chance_job, is_cut, most_jobs, pass, subtrees}
-use Rattle.def_tree.specs.Tree.{Forest, bare, grown, prefix, leaf_count, tree_count}
-use Rattle.xg_jobs.specs.declared.tops.TopNode.{TopNode}
-use Rattle.xg_jobs.specs.Cutting.{AreJobs, IsJob, Stand}
-use Rattle.xg_jobs.proofs.TopNodesOfTrees.{push_job, stand_below, stand_there, top_is}
+use Rattle.def_tree.specs.declared.Kind.TheVariants.{Chance}
+use Rattle.def_tree.specs.declared.Node.{Node}
+use Rattle.def_tree.specs.Links.{children_of, roots_from}
+use Rattle.def_tree.specs.Rules.{is_same_kind}
+use Rattle.def_tree.specs.Tree.{Forest, bare, grown, node_count, prefix, tree_count}
+use Rattle.xg_jobs.specs.Cutting.{AreJobs, AreJobsFrom, IsJob, NoLeafBetween, StandAt}
+use Rattle.xg_jobs.proofs.StandingTrees.{append_jobs, begin_earlier, chance_no_leaf, children_at, each_job, over, same_node, stand_below, stand_there, top_is}
 
--- the trees below a chance node's job
-pub record TreesBelow (tops : List TopNode) (place : ℕ) (job : Forest) (count : ℕ) : Type 0 where
-  pub trees : Forest
-  pub stand : Stand tops (place + 1) trees
-  pub counts : tree_count trees ≡ count
-  pub are : each_tree trees ≡ subtrees job
+abbrev is_chance : Node → Bool
+is_chance node = is_same_kind Chance node.kind
 
 -- what the top node tells of a job
-pub record TellsJob (tops : List TopNode) (place : ℕ) (job : Forest) (t : TopNode) : Type 0 where
-  pub inside : place < length tops
-  pub chance : t.chance ≡ is_chance_job job
-  pub children : t.children ≡ length (subtrees job)
-  pub leaves : t.leaves ≡ leaf_count (prefix job)
-  pub below : t.chance ≡ true → TreesBelow tops place job t.children
+pub record TellsJob (tree : Forest) (earlier k : ℕ) (job : Forest) (top : Node) : Type 0 where
+  pub chance : is_chance top ≡ is_chance_job job
+  pub children : top.children ≡ length (subtrees job)
+  pub count : length (children_of tree k) ≡ top.children
+  pub below : is_chance top ≡ true → AreJobsFrom tree earlier (k + node_count job) (children_of tree k) (subtrees job)
 
 trees_counted : (trees : Forest) → length (each_tree trees) ≡ tree_count trees
 trees_counted bare = refl
 trees_counted (grown node below beside) = ap suc (trees_counted beside)
 
-known : (tops : List TopNode) (place : ℕ) (job : Forest) (t : TopNode) → tree_count job ≡ 1 → Stand tops place job
-    → t ≡ get_or tops place t → TellsJob tops place job t
-known tops place bare t one stand read = absurd (omega (arith, one))
-known tops place (grown node below bare) t one stand read =
-    let is = top_is tops place node below bare t stand read in
-    let chance = ap (λ (x : TopNode). x.chance) is in
-    let children = ap (λ (x : TopNode). x.children) is in
+roots_counted : (k : ℕ) (trees : Forest) → length (roots_from k trees) ≡ tree_count trees
+roots_counted k bare = refl
+roots_counted k (grown node below beside) = ap suc (roots_counted (k + 1 + node_count below) beside)
+
+known : (tree : Forest) (earlier k : ℕ) (node : Node) (below : Forest)
+    → StandAt tree k (grown node below bare) → NoLeafBetween tree earlier k
+    → TellsJob tree earlier k (grown node below bare) node
+known tree earlier k node below s before =
+    let children = children_at tree k node below bare s in
+    let count : tree_count below ≡ node.children = s.whole.0 in
+    let end : ℕ = k + node_count (grown node below bare) in
+    let all : k + 1 + node_count below ≡ end = omega (arith, ap length (append-nil (prefix below))) in
     record {
-      inside = stand_there tops place node below bare stand;
-      chance = chance;
-      children = children ∙ sym (trees_counted below);
-      leaves = ap (λ (x : TopNode). x.leaves) is;
-      below = λ h. record {
-        trees = below;
-        stand = stand_below tops place node below bare (sym chance ∙ h) stand;
-        counts = sym children;
-        are = refl;
-      };
+      chance = refl;
+      children = sym count ∙ sym (trees_counted below);
+      count = ap length children ∙ roots_counted (k + 1) below ∙ count;
+      below = λ chance.
+          subst (λ ks. AreJobsFrom tree earlier end ks (each_tree below)) (sym children)
+          (subst (λ n. AreJobsFrom tree earlier n (roots_from (k + 1) below) (each_tree below)) all
+          (begin_earlier tree earlier (k + 1) (k + 1 + node_count below) (roots_from (k + 1) below) (each_tree below)
+          (over tree earlier k (k + 1) before (chance_no_leaf tree k node below bare s chance))
+          (each_job tree (k + 1) below (stand_below tree k node below bare s))));
     }
-known tops place (grown node below (grown n b s)) t one stand read = absurd (omega (arith, one))
 
--- the node that is read at a job's place tells of this job
-pub tells_job : (tops : List TopNode) (place : ℕ) (job : Forest) (t : TopNode) → IsJob tops place job
-    → t ≡ get_or tops place t → TellsJob tops place job t
-tells_job tops place job t is read = known tops place job t is.one is.there read
+tells : (tree : Forest) (earlier k : ℕ) (job : Forest) (top : Node) → tree_count job ≡ 1 → StandAt tree k job
+    → NoLeafBetween tree earlier k → slice_get (prefix tree) (k - 1) ≡ Some top → TellsJob tree earlier k job top
+tells tree earlier k bare top one s before read = absurd (omega (arith, one))
+tells tree earlier k (grown node below bare) top one s before read =
+    let is = top_is tree k node below bare top s read in
+    subst (λ (t : Node). TellsJob tree earlier k (grown node below bare) t) (sym is)
+    (known tree earlier k node below s before)
+tells tree earlier k (grown node below (grown n b s')) top one s before read = absurd (omega (arith, one))
 
--- the first of the places is that of the first job
-pub record FirstJob (tops : List TopNode) (place : ℕ) (places : List ℕ) (jobs : List Forest) : Type 0 where
+-- the node that is read at a job's number tells of this job
+pub tells_job : (tree : Forest) (earlier k : ℕ) (job : Forest) (top : Node) → IsJob tree earlier k job
+    → slice_get (prefix tree) (k - 1) ≡ Some top → TellsJob tree earlier k job top
+tells_job tree earlier k job top is read = tells tree earlier k job top is.one is.there is.before read
+
+inside_as : (tree : Forest) (k : ℕ) (job : Forest) → tree_count job ≡ 1 → StandAt tree k job
+    → k + node_count job ≤ node_count tree + 1
+inside_as tree k bare one s = absurd (omega (arith, one))
+inside_as tree k (grown node below beside) one s = stand_there tree k node below beside s
+
+-- a job's nodes are nodes of the tree
+job_inside : (tree : Forest) (earlier k : ℕ) (job : Forest) → IsJob tree earlier k job
+    → k + node_count job ≤ node_count tree + 1
+job_inside tree earlier k job is = inside_as tree k job is.one is.there
+
+some_nodes : (job : Forest) → tree_count job ≡ 1 → 1 ≤ node_count job
+some_nodes bare one = absurd (omega (arith, one))
+some_nodes (grown node below beside) one = omega arith
+
+-- a job's top node is a node of the tree
+pub top_inside : (tree : Forest) (earlier k : ℕ) (job : Forest) → IsJob tree earlier k job → k ≤ node_count tree
+top_inside tree earlier k job is = omega (arith, job_inside tree earlier k job is, some_nodes job is.one)
+
+-- the first of the nodes is that of the first job
+pub record FirstJob (tree : Forest) (earlier end node : ℕ) (nodes : List ℕ) (jobs : List Forest) : Type 0 where
   pub job : Forest
   pub rest : List Forest
-  pub is : IsJob tops place job
-  pub are : AreJobs tops places rest
+  pub is : IsJob tree earlier node job
+  pub are : AreJobsFrom tree (node + node_count job) end nodes rest
   pub jobs_are : jobs ≡ job ∷ rest
 
--- where there is a first place, there is a first job, whose place it is, and the other places are those of the others
-pub first_job : (tops : List TopNode) (place : ℕ) (places : List ℕ) (jobs : List Forest)
-    → AreJobs tops (place ∷ places) jobs → FirstJob tops place places jobs
-first_job tops place places [] are = absurd are
-first_job tops place places (job ∷ rest) are = record { job = job; rest = rest; is = are.0; are = are.1; jobs_are = refl }
+first : (tree : Forest) (earlier end node : ℕ) (nodes : List ℕ) (jobs : List Forest)
+    → AreJobsFrom tree earlier end (node ∷ nodes) jobs → FirstJob tree earlier end node nodes jobs
+first tree earlier end node nodes [] are = absurd are
+first tree earlier end node nodes (job ∷ rest) are =
+    record { job = job; rest = rest; is = are.0; are = are.1; jobs_are = refl }
 
--- at each of the places there is a job
-pub job_at : (tops : List TopNode) (places : List ℕ) (jobs : List Forest) (k d : ℕ) → AreJobs tops places jobs
-    → k < length places → (job : Forest) × IsJob tops (get_or places k d) job
-job_at tops [] jobs k d are low = absurd (omega arith)
-job_at tops (x ∷ xs) [] k d are low = absurd are
-job_at tops (x ∷ xs) (y ∷ ys) zero d are low = (y, are.0)
-job_at tops (x ∷ xs) (y ∷ ys) (suc k) d are low = job_at tops xs ys k d are.1 (omega arith)
+-- where there is a first node, there is a first job, whose top node it is, and the other nodes are those of the others
+pub first_job : (tree : Forest) (earlier end node : ℕ) (all nodes : List ℕ) (jobs : List Forest)
+    → all ≡ node ∷ nodes → AreJobsFrom tree earlier end all jobs → FirstJob tree earlier end node nodes jobs
+first_job tree earlier end node all nodes jobs is are =
+    first tree earlier end node nodes jobs (subst (λ ks. AreJobsFrom tree earlier end ks jobs) is are)
+
+-- where there is no node, there is no job
+pub none_left : (tree : Forest) (earlier end : ℕ) (nodes : List ℕ) (jobs : List Forest) → nodes ≡ []
+    → AreJobsFrom tree earlier end nodes jobs → (jobs ≡ []) × NoLeafBetween tree earlier end
+none_left tree earlier end [] [] is are = (refl, are)
+none_left tree earlier end [] (x ∷ xs) is are = absurd are
+none_left tree earlier end (k ∷ ks) jobs is are = cc is
 
 -- the jobs before a place have been passed over
-pub record PassSome (tops : List TopNode) (places : List ℕ) (jobs : List Forest) (after : List ℕ) (count : ℕ)
+pub record PassSome (tree : Forest) (nodes : List ℕ) (jobs : List Forest) (after : List ℕ) (count : ℕ)
     (cut : Bool) (k : ℕ) : Type 0 where
+  pub next : ℕ
   pub made : List Forest
   pub rest : List Forest
-  pub to_come : AreJobs tops (drop k places) rest
-  pub done : AreJobs tops after made
+  pub to_come : AreJobsFrom tree next (node_count tree + 1) (drop k nodes) rest
+  pub done : AreJobsFrom tree 1 next after made
   pub whole : made ++ cut_each most_jobs count rest ≡ pass most_jobs jobs
   pub same : cut ≡ false → made ++ rest ≡ jobs
 
 -- at first no job has been passed over, all are to come, and none was cut
-pub none_passed : (tops : List TopNode) (places : List ℕ) (jobs : List Forest) → AreJobs tops places jobs
-    → PassSome tops places jobs [] (length jobs) false 0
-none_passed tops places jobs are = record { made = []; rest = jobs; to_come = are; done = tt; whole = refl; same = λ _. refl }
+pub none_passed : (tree : Forest) (nodes : List ℕ) (jobs : List Forest) → AreJobs tree nodes jobs
+    → PassSome tree nodes jobs [] (length jobs) false 0
+none_passed tree nodes jobs are =
+    record { next = 1; made = []; rest = jobs; to_come = are; done = same_node tree 1; whole = refl; same = λ _. refl }
 
--- where the next job gives way, and the places of its subtrees are put, it has been passed over
-pub pass_cut : (tops : List TopNode) (places : List ℕ) (jobs : List Forest) (after after' : List ℕ) (count : ℕ)
-    (cut : Bool) (k place : ℕ) (t : TopNode)
-    → PassSome tops places jobs after count cut k → drop k places ≡ place ∷ drop (k + 1) places
-    → t ≡ get_or tops place t
-    → (t.chance && nat_le (count - 1 + t.children) most_jobs) ≡ true → t.chance ≡ true
-    → ((trees : Forest) → Stand tops (place + 1) trees → tree_count trees ≡ t.children
-    → (before : List Forest) → AreJobs tops after before → AreJobs tops after' (before ++ each_tree trees))
-    → PassSome tops places jobs after' (count - 1 + t.children) true (k + 1)
-pass_cut tops places jobs after after' count cut k place t some next read test chance put =
-    let first = first_job tops place (drop (k + 1) places) some.rest (subst (λ ps. AreJobs tops ps some.rest) next some.to_come) in
-    let tells = tells_job tops place first.job t first.is read in
-    let trees = tells.below chance in
-    let here : is_cut most_jobs count first.job ≡ true = ap (λ b. b && nat_le (count - 1 + length (subtrees first.job)) most_jobs) (sym tells.chance) ∙ ap (λ n. t.chance && nat_le (count - 1 + n) most_jobs) (sym tells.children) ∙ test in
-    let counts : count_after count first.job ≡ count - 1 + t.children = ap (λ n. count - 1 + n) (sym tells.children) in
+-- the next job
+pub next_job : (tree : Forest) (nodes : List ℕ) (jobs : List Forest) (after : List ℕ) (count : ℕ) (cut : Bool)
+    (k node : ℕ) (some : PassSome tree nodes jobs after count cut k) → drop k nodes ≡ node ∷ drop (k + 1) nodes
+    → FirstJob tree some.next (node_count tree + 1) node (drop (k + 1) nodes) some.rest
+next_job tree nodes jobs after count cut k node some is =
+    first_job tree some.next (node_count tree + 1) node (drop k nodes) (drop (k + 1) nodes) some.rest is some.to_come
+
+-- a job gives way where the test of its top node says so
+cut_as : (tree : Forest) (earlier k : ℕ) (job : Forest) (top : Node) (count : ℕ) (b : Bool)
+    → TellsJob tree earlier k job top → (is_chance top && nat_le (count - 1 + top.children) most_jobs) ≡ b
+    → is_cut most_jobs count job ≡ b
+cut_as tree earlier k job top count b tells test =
+    ap (λ b. b && nat_le (count - 1 + length (subtrees job)) most_jobs) (sym tells.chance)
+    ∙ ap (λ n. is_chance top && nat_le (count - 1 + n) most_jobs) (sym tells.children)
+    ∙ test
+
+-- what a pass makes of the first job, by whether it gives way
+cut_first : (count : ℕ) (job : Forest) (rest : List Forest) (b : Bool) → is_cut most_jobs count job ≡ b
+    → cut_each most_jobs count (job ∷ rest)
+    ≡ cond b (subtrees job ++ cut_each most_jobs (count_after count job) rest) (job ∷ cut_each most_jobs count rest)
+cut_first count job rest b is =
+    let gone : List Forest = subtrees job ++ cut_each most_jobs (count_after count job) rest in
+    let kept : List Forest = job ∷ cut_each most_jobs count rest in
+    ap (λ b. cond b gone kept) is
+
+-- where the next job gives way, and the top node's children are put, it has been passed over
+pub pass_cut : (tree : Forest) (nodes : List ℕ) (jobs : List Forest) (after : List ℕ) (count : ℕ) (cut : Bool)
+    (k node : ℕ) (top : Node)
+    → PassSome tree nodes jobs after count cut k → drop k nodes ≡ node ∷ drop (k + 1) nodes
+    → slice_get (prefix tree) (node - 1) ≡ Some top
+    → (is_chance top && nat_le (count - 1 + top.children) most_jobs) ≡ true → is_chance top ≡ true
+    → PassSome tree nodes jobs (after ++ children_of tree node) (count - 1 + top.children) true (k + 1)
+pass_cut tree nodes jobs after count cut k node top some is read test chance =
+    let first = next_job tree nodes jobs after count cut k node some is in
+    let job : Forest = first.job in
+    let tells = tells_job tree some.next node job top first.is read in
+    let here = cut_as tree some.next node job top count true tells test in
+    let counts : count_after count job ≡ count - 1 + top.children = ap (λ n. count - 1 + n) (sym tells.children) in
     record {
-      made = some.made ++ subtrees first.job;
+      next = node + node_count job;
+      made = some.made ++ subtrees job;
       rest = first.rest;
       to_come = first.are;
-      done = subst (λ ts. AreJobs tops after' (some.made ++ ts)) trees.are (put trees.trees trees.stand trees.counts some.made some.done);
-      whole = append_assoc some.made (subtrees first.job) (cut_each most_jobs (count - 1 + t.children) first.rest)
-          ∙ ap (λ n. some.made ++ (subtrees first.job ++ cut_each most_jobs n first.rest)) (sym counts)
-          ∙ ap (λ b. some.made ++ cond b (subtrees first.job ++ cut_each most_jobs (count_after count first.job) first.rest) (first.job ∷ cut_each most_jobs count first.rest)) (sym here)
+      done = append_jobs tree 1 some.next (node + node_count job) after (children_of tree node) some.made (subtrees job)
+          some.done (tells.below chance);
+      whole = append_assoc some.made (subtrees job) (cut_each most_jobs (count - 1 + top.children) first.rest)
+          ∙ ap (λ n. some.made ++ (subtrees job ++ cut_each most_jobs n first.rest)) (sym counts)
+          ∙ ap (λ js. some.made ++ js) (sym (cut_first count job first.rest true here))
           ∙ ap (λ js. some.made ++ cut_each most_jobs count js) (sym first.jobs_are)
           ∙ some.whole;
       same = λ h. absurd (no h);
@@ -121,59 +181,56 @@ pass_cut tops places jobs after after' count cut k place t some next read test c
     no : true ≡ false → ⊥
     no h = grind arith
 
--- where the next job doesn't give way, and its own place is put, it has been passed over
-pub pass_kept : (tops : List TopNode) (places : List ℕ) (jobs : List Forest) (after : List ℕ) (count : ℕ) (cut : Bool)
-    (k place : ℕ) (t : TopNode)
-    → PassSome tops places jobs after count cut k → drop k places ≡ place ∷ drop (k + 1) places
-    → t ≡ get_or tops place t
-    → (t.chance && nat_le (count - 1 + t.children) most_jobs) ≡ false
-    → PassSome tops places jobs (after ++ place ∷ []) count cut (k + 1)
-pass_kept tops places jobs after count cut k place t some next read test =
-    let first = first_job tops place (drop (k + 1) places) some.rest (subst (λ ps. AreJobs tops ps some.rest) next some.to_come) in
-    let tells = tells_job tops place first.job t first.is read in
-    let here : is_cut most_jobs count first.job ≡ false = ap (λ b. b && nat_le (count - 1 + length (subtrees first.job)) most_jobs) (sym tells.chance) ∙ ap (λ n. t.chance && nat_le (count - 1 + n) most_jobs) (sym tells.children) ∙ test in
+-- where the next job doesn't give way, and its own top node is put, it has been passed over
+pub pass_kept : (tree : Forest) (nodes : List ℕ) (jobs : List Forest) (after : List ℕ) (count : ℕ) (cut : Bool)
+    (k node : ℕ) (top : Node)
+    → PassSome tree nodes jobs after count cut k → drop k nodes ≡ node ∷ drop (k + 1) nodes
+    → slice_get (prefix tree) (node - 1) ≡ Some top
+    → (is_chance top && nat_le (count - 1 + top.children) most_jobs) ≡ false
+    → PassSome tree nodes jobs (after ++ node ∷ []) count cut (k + 1)
+pass_kept tree nodes jobs after count cut k node top some is read test =
+    let first = next_job tree nodes jobs after count cut k node some is in
+    let job : Forest = first.job in
+    let tells = tells_job tree some.next node job top first.is read in
+    let here = cut_as tree some.next node job top count false tells test in
+    let behind : ℕ = node + node_count job in
     record {
-      made = some.made ++ first.job ∷ [];
+      next = behind;
+      made = some.made ++ job ∷ [];
       rest = first.rest;
       to_come = first.are;
-      done = push_job tops after some.made place first.job some.done first.is;
-      whole = append_assoc some.made (first.job ∷ []) (cut_each most_jobs count first.rest)
-          ∙ ap (λ b. some.made ++ cond b (subtrees first.job ++ cut_each most_jobs (count_after count first.job) first.rest) (first.job ∷ cut_each most_jobs count first.rest)) (sym here)
+      done = append_jobs tree 1 some.next behind after (node ∷ []) some.made (job ∷ []) some.done
+          (first.is, same_node tree behind);
+      whole = append_assoc some.made (job ∷ []) (cut_each most_jobs count first.rest)
+          ∙ ap (λ js. some.made ++ js) (sym (cut_first count job first.rest false here))
           ∙ ap (λ js. some.made ++ cut_each most_jobs count js) (sym first.jobs_are)
           ∙ some.whole;
-      same = λ h. append_assoc some.made (first.job ∷ []) first.rest ∙ ap (λ js. some.made ++ js) (sym first.jobs_are) ∙ some.same h;
+      same = λ h. append_assoc some.made (job ∷ []) first.rest ∙ ap (λ js. some.made ++ js) (sym first.jobs_are)
+          ∙ some.same h;
     }
 
 -- all have been passed over
-none_left : (tops : List TopNode) (rest : List Forest) → AreJobs tops [] rest → rest ≡ []
-none_left tops [] are = refl
-none_left tops (x ∷ xs) are = absurd are
+pub all_passed : (tree : Forest) (nodes : List ℕ) (jobs : List Forest) (after : List ℕ) (count : ℕ) (cut : Bool) (k : ℕ)
+    → PassSome tree nodes jobs after count cut k → drop k nodes ≡ []
+    → AreJobs tree after (pass most_jobs jobs) × (cut ≡ false → pass most_jobs jobs ≡ jobs)
+all_passed tree nodes jobs after count cut k some past =
+    let end : ℕ = node_count tree + 1 in
+    let gone = none_left tree some.next end (drop k nodes) some.rest past some.to_come in
+    let all : some.made ++ [] ≡ pass most_jobs jobs =
+    ap (λ js. some.made ++ cut_each most_jobs count js) (sym gone.0) ∙ some.whole in (
+      subst (λ ks. AreJobs tree ks (pass most_jobs jobs)) (append-nil after)
+          (subst (λ js. AreJobs tree (after ++ []) js) all
+          (append_jobs tree 1 some.next end after [] some.made [] some.done gone.1)),
+      λ h. sym all ∙ ap (λ js. some.made ++ js) (sym gone.0) ∙ some.same h,
+    )
 
-pub all_passed : (tops : List TopNode) (places : List ℕ) (jobs : List Forest) (after : List ℕ) (count : ℕ) (cut : Bool)
-    (k : ℕ)
-    → PassSome tops places jobs after count cut k → drop k places ≡ []
-    → AreJobs tops after (pass most_jobs jobs) × (cut ≡ false → pass most_jobs jobs ≡ jobs)
-all_passed tops places jobs after count cut k some past =
-    let gone : some.rest ≡ [] = none_left tops some.rest (subst (λ ps. AreJobs tops ps some.rest) past some.to_come) in
-    let all : some.made ≡ pass most_jobs jobs = sym (append-nil some.made) ∙ ap (λ js. some.made ++ cut_each most_jobs count js) (sym gone) ∙ some.whole in
-    (subst (AreJobs tops after) all some.done, λ h. sym all ∙ sym (append-nil some.made) ∙ ap (λ js. some.made ++ js) (sym gone) ∙ some.same h)
-
--- there are as many places as jobs
-pub jobs_counted : (tops : List TopNode) (places : List ℕ) (jobs : List Forest) → AreJobs tops places jobs
-    → length places ≡ length jobs
-jobs_counted tops [] [] are = refl
-jobs_counted tops [] (y ∷ ys) are = absurd are
-jobs_counted tops (x ∷ xs) [] are = absurd are
-jobs_counted tops (x ∷ xs) (y ∷ ys) are = ap suc (jobs_counted tops xs ys are.1)
-
-inside_as : (tops : List TopNode) (place : ℕ) (job : Forest) → tree_count job ≡ 1 → Stand tops place job
-    → place < length tops
-inside_as tops place bare one stand = absurd (omega (arith, one))
-inside_as tops place (grown node below beside) one stand = stand_there tops place node below beside stand
-
--- a job's place is that of a node at the top
-pub job_inside : (tops : List TopNode) (place : ℕ) (job : Forest) → IsJob tops place job → place < length tops
-job_inside tops place job is = inside_as tops place job is.one is.there
+-- there are as many nodes as jobs
+pub jobs_counted : (tree : Forest) (k end : ℕ) (nodes : List ℕ) (jobs : List Forest)
+    → AreJobsFrom tree k end nodes jobs → length nodes ≡ length jobs
+jobs_counted tree k end [] [] are = refl
+jobs_counted tree k end [] (y ∷ ys) are = absurd are
+jobs_counted tree k end (x ∷ xs) [] are = absurd are
+jobs_counted tree k end (x ∷ xs) (y ∷ ys) are = ap suc (jobs_counted tree (x + node_count y) end xs ys are.1)
 
 -- where a test holds together with that of n being at most m, n is at most m
 pub fits_in : (a : Bool) (n m : ℕ) → (a && nat_le n m) ≡ true → n ≤ m

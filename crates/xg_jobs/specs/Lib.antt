@@ -4,9 +4,6 @@ pub mod Ranges
 pub mod Groups
 pub mod Grouping
 pub mod Writing
-pub mod Tops
-pub mod Visit
-pub mod Walked
 pub mod Cutting
 pub mod Entries
 pub mod Merging

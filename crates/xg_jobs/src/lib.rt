@@ -15,7 +15,6 @@ mod row;
 mod rows;
 mod sizes;
 mod table;
-mod tops;
 mod touching;
 mod writing;
 

@@ -9,4 +9,5 @@ abbrev pub invariant-loop-job : goal.invariant-loop-job
 invariant-loop-job l =
     (length l.after.items + (length l.jobs - l.job-index) ≡ l.count)
     × (l.count ≤ most_jobs)
-    × ((now : List Forest) → AreJobs l.tops l.jobs now → PassSome l.tops l.jobs now l.after.items l.count l.cut l.job-index)
+    × ((now : List Forest) → AreJobs l.tree l.jobs now
+    → PassSome l.tree l.jobs now l.after.items l.count l.cut l.job-index)
