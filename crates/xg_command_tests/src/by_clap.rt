@@ -252,7 +252,7 @@ fn count_taken_by_three(
 /// A first word, with how often it is taken with one word behind it, and with two.
 type Front = (&'static str, u32, u32);
 
-const FRONTS: &[Front] = &[
+static FRONTS: [Front; 10] = [
     ("solve", 5, 40),
     ("info", 5, 0),
     ("gen", 1, 0),
@@ -281,7 +281,7 @@ fn is_as_told(rt: &impl Abort, alloc: Global, front: Front) -> Result<bool, Fail
 
 /// The first of `FRONTS` that is taken in another number.
 fn first_other(rt: &impl Abort, alloc: Global) -> Result<Option<&'static str>, Fail> {
-    for front in FRONTS {
+    for front in &FRONTS {
         if !is_as_told(rt, alloc, *front)? {
             return Ok(Some(front.0));
         }
@@ -303,7 +303,7 @@ fn agrees_with_clap_on_each_command(rt: HostRuntime) -> Result<(), Fail> {
 }
 
 /// Words that both take, and such that neither takes.
-const MORE: &[(WordList, bool)] = &[
+static MORE: [(WordList, bool); 22] = [
     (&["xg_solve", "solve", "--rounds=0", "F1"], true),
     (
         &["xg_solve", "solve", "F2", "--rounds", "2", "--every", "1"],
@@ -416,7 +416,7 @@ const MORE: &[(WordList, bool)] = &[
 
 #[test]
 fn agrees_with_clap_on_more_words(rt: HostRuntime) -> Result<(), Fail> {
-    for &(words, is_taken) in MORE {
+    for &(words, is_taken) in &MORE {
         assert!(rt; agree(&rt, rt.alloc(), words)? == is_taken);
     }
     Ok(())
@@ -424,7 +424,7 @@ fn agrees_with_clap_on_more_words(rt: HostRuntime) -> Result<(), Fail> {
 
 /// Words that `clap` takes and the program refuses. Behind `--` each word is a plain one to clap, and a lone minus is
 /// one anywhere; and a number in Rust's spelling may have a plus.
-const TAKEN_BY_CLAP: &[WordList] = &[
+static TAKEN_BY_CLAP: [WordList; 6] = [
     &["xg_solve", "solve", "--", "F1"],
     &["xg_solve", "solve", "--", "-x"],
     &["xg_solve", "info", "F1", "--"],
@@ -441,7 +441,7 @@ fn is_taken_by_clap_alone<'a>(alloc: Global, words: &'a [&'a str]) -> Result<boo
 
 /// The first of `TAKEN_BY_CLAP` that isn't taken by clap alone.
 fn first_not_by_clap_alone(alloc: Global) -> Result<Option<WordList>, Fail> {
-    for words in TAKEN_BY_CLAP {
+    for words in &TAKEN_BY_CLAP {
         if !is_taken_by_clap_alone(alloc, words)? {
             return Ok(Some(words));
         }

@@ -86,7 +86,7 @@ fn names(alloc: Global, row: &[&str], command: Option<Command<'_>>) -> Result<bo
 }
 
 /// The words, the rounds, after how many of them the plans are evaluated, and the scale.
-const SOLVED: &[(WordList, u32, u32, u32)] = &[
+static SOLVED: [(WordList, u32, u32, u32); 15] = [
     (&["solve", "F1"], 1000, 1000, 1_048_576),
     (&["solve", "--rounds=0", "F1"], 0, 1, 1_048_576),
     (&["solve", "--rounds", "0", "F1"], 0, 1, 1_048_576),
@@ -130,7 +130,7 @@ const SOLVED: &[(WordList, u32, u32, u32)] = &[
 
 /// The first row of `SOLVED` whose words name another command.
 fn first_not_solved(alloc: Global) -> Result<Option<WordList>, AllocError> {
-    for &(row, rounds, every, scale) in SOLVED {
+    for &(row, rounds, every, scale) in &SOLVED {
         if !names(alloc, row, solve("F1", rounds, every, scale))? {
             return Ok(Some(row));
         }
@@ -144,7 +144,7 @@ fn takes_the_words_of_solve(rt: HostRuntime) -> Result<(), Fail> {
     Ok(())
 }
 
-const PLAYED_PLUS: &[(WordList, u32, u32, u32)] = &[
+static PLAYED_PLUS: [(WordList, u32, u32, u32); 6] = [
     (&["plus", "F1"], 1000, 1000, 16_384),
     (&["plus", "--rounds=0", "F1"], 0, 1, 16_384),
     (&["plus", "F1", "--rounds", "2048"], 2_048, 2_048, 16_384),
@@ -160,7 +160,7 @@ const PLAYED_PLUS: &[(WordList, u32, u32, u32)] = &[
 
 /// The first row of `PLAYED_PLUS` whose words name another command.
 fn first_not_plus(alloc: Global) -> Result<Option<WordList>, AllocError> {
-    for &(row, rounds, every, scale) in PLAYED_PLUS {
+    for &(row, rounds, every, scale) in &PLAYED_PLUS {
         if !names(alloc, row, plus("F1", rounds, every, scale))? {
             return Ok(Some(row));
         }
@@ -169,7 +169,7 @@ fn first_not_plus(alloc: Global) -> Result<Option<WordList>, AllocError> {
 }
 
 /// The words, the cards, the rounds, and the workers where their number is given.
-const DRILLED: &[(WordList, u32, u32, Option<u32>)] = &[
+static DRILLED: [(WordList, u32, u32, Option<u32>); 4] = [
     (&["drill", "3"], 3, 1000, None),
     (&["drill", "--rounds=1", "03"], 3, 1, None),
     (
@@ -183,7 +183,7 @@ const DRILLED: &[(WordList, u32, u32, Option<u32>)] = &[
 
 /// The first row of `DRILLED` whose words name another command.
 fn first_not_drilled(alloc: Global) -> Result<Option<WordList>, AllocError> {
-    for &(row, cards, rounds, workers) in DRILLED {
+    for &(row, cards, rounds, workers) in &DRILLED {
         if !names(alloc, row, drill(cards, rounds, locked(workers)))? {
             return Ok(Some(row));
         }
@@ -192,7 +192,7 @@ fn first_not_drilled(alloc: Global) -> Result<Option<WordList>, AllocError> {
 }
 
 /// Words of `drill 3` with one round, the number of workers, and whether they add without locks.
-const ATOMIC: &[(WordList, Option<u32>, bool)] = &[
+static ATOMIC: [(WordList, Option<u32>, bool); 5] = [
     (&["drill", "3", "--rounds=1", "--atomic=1"], None, true),
     (&["drill", "--atomic", "1", "3", "--rounds=1"], None, true),
     (
@@ -210,7 +210,7 @@ const ATOMIC: &[(WordList, Option<u32>, bool)] = &[
 
 /// The first row of `ATOMIC` whose words name another command.
 fn first_not_atomic(alloc: Global) -> Result<Option<WordList>, AllocError> {
-    for &(row, workers, atomic) in ATOMIC {
+    for &(row, workers, atomic) in &ATOMIC {
         if !names(alloc, row, drill(3, 1, RowWords { workers, atomic }))? {
             return Ok(Some(row));
         }
@@ -219,7 +219,7 @@ fn first_not_atomic(alloc: Global) -> Result<Option<WordList>, AllocError> {
 }
 
 /// The words, the files, the rounds, and the workers where their number is given.
-const BATCHED: &[(WordList, WordList, u32, Option<u32>)] = &[
+static BATCHED: [(WordList, WordList, u32, Option<u32>); 5] = [
     (&["batch", "F1"], &["F1"], 1000, None),
     (&["batch", "F2", "F1"], &["F2", "F1"], 1000, None),
     (&["batch", "F1", "F1"], &["F1", "F1"], 1000, None),
@@ -253,7 +253,7 @@ const BATCHED: &[(WordList, WordList, u32, Option<u32>)] = &[
 
 /// The first row of `BATCHED` whose words name another command.
 fn first_not_batch(alloc: Global) -> Result<Option<WordList>, AllocError> {
-    for &(row, files, rounds, workers) in BATCHED {
+    for &(row, files, rounds, workers) in &BATCHED {
         let settings = settings(rounds, rounds, 1_048_576);
         if !names(alloc, row, batch(files, settings, workers))? {
             return Ok(Some(row));
@@ -262,42 +262,36 @@ fn first_not_batch(alloc: Global) -> Result<Option<WordList>, AllocError> {
     Ok(None)
 }
 
-/// Words of the commands without settings.
-fn others() -> [(WordList, Command<'static>); 5] {
-    [
-        (
-            &["check", "F1", "C1"],
-            Command::Check {
-                file: "F1",
-                certificate: "C1",
-            },
-        ),
-        (
-            &["upgrade", "F1", "C1"],
-            Command::Upgrade {
-                file: "F1",
-                certificate: "C1",
-            },
-        ),
-        (&["gen", "2"], Command::Gen { cards: 2 }),
-        (&["gen", "007"], Command::Gen { cards: 7 }),
-        (&["gen", "64"], Command::Gen { cards: 64 }),
-    ]
+fn is_check(alloc: Global) -> Result<bool, AllocError> {
+    let check = Command::Check {
+        file: "F1",
+        certificate: "C1",
+    };
+    names(alloc, &["check", "F1", "C1"], Some(check))
 }
 
-/// The first row of `others` whose words name another command.
-fn first_other(alloc: Global) -> Result<Option<WordList>, AllocError> {
-    for (row, command) in others() {
-        if !names(alloc, row, Some(command))? {
-            return Ok(Some(row));
-        }
-    }
-    Ok(None)
+fn is_upgrade(alloc: Global) -> Result<bool, AllocError> {
+    let upgrade = Command::Upgrade {
+        file: "F1",
+        certificate: "C1",
+    };
+    names(alloc, &["upgrade", "F1", "C1"], Some(upgrade))
+}
+
+fn is_gen(alloc: Global, cards: u32, word: &str) -> Result<bool, AllocError> {
+    names(alloc, &["gen", word], Some(Command::Gen { cards }))
 }
 
 #[test]
 fn takes_other_commands(rt: HostRuntime) -> Result<(), Fail> {
-    assert_no_row(&rt, first_other(rt.alloc())?);
+    let alloc = rt.alloc();
+    assert!(rt;
+        is_check(alloc)?
+            && is_upgrade(alloc)?
+            && is_gen(alloc, 2, "2")?
+            && is_gen(alloc, 7, "007")?
+            && is_gen(alloc, 64, "64")?
+    );
     assert_no_row(&rt, first_not_drilled(rt.alloc())?);
     assert_no_row(&rt, first_not_plus(rt.alloc())?);
     assert_no_row(&rt, first_not_atomic(rt.alloc())?);
@@ -343,126 +337,125 @@ fn takes_any_word_as_a_file(rt: HostRuntime) -> Result<(), Fail> {
     Ok(())
 }
 
-const REFUSED: &[WordList] = &[
-    &[""],
-    &["solve"],
-    &["info"],
-    &["Solve", "F1"],
-    &["solve ", "F1"],
-    &["sol", "F1"],
-    &["F1"],
-    &["gen"],
-    &["gen", "1"],
-    &["gen", "65"],
-    &["gen", "F1"],
-    &["gen", "+3"],
-    &["gen", "3", "4"],
-    &["gen", "3", "--rounds=1"],
-    &["drill"],
-    &["drill", "1"],
-    &["drill", "65"],
-    &["drill", "3", "4"],
-    &["drill", "F1"],
-    &["drill", "3", "--workers=0"],
-    &["check"],
-    &["check", "F1"],
-    &["check", "F1", "C1", "C2"],
-    &["check", "F1", "C1", "--rounds=1"],
-    &["check", "F1", "--"],
-    &["plus"],
-    &["plus", "F1", "F2"],
-    &["plus", "F1", "--rounds", "2049"],
-    &["plus", "F1", "--rounds=65536"],
-    &["plus", "F1", "--scale", "0"],
-    &["plus", "F1", "--scale", "16385"],
-    &["plus", "F1", "--scale=1048576"],
-    &["plus", "F1", "--every=0"],
-    &["plus", "F1", "--every", "65537"],
-    &["plus", "F1", "--workers=65"],
-    &["Plus", "F1"],
-    &["solve", "F1", "--atomic"],
-    &["solve", "F1", "--atomic="],
-    &["solve", "F1", "--atomic=2"],
-    &["solve", "F1", "--atomic=1", "--atomic=1"],
-    &["solve", "F1", "--atomic=1", "--atomic", "0"],
-    &["plus", "F1", "--atomic", "2"],
-    &["drill", "3", "--atomic=-1"],
-    &["check", "F1", "C1", "--atomic=1"],
-    &["upgrade", "F1", "C1", "--atomic=0"],
-    &["info", "F1", "--atomic=1"],
-    &["gen", "3", "--atomic=1"],
-    &["batch", "F1", "--atomic=1"],
-    &["batch", "--atomic", "0", "F1"],
-    &["batch"],
-    &["batch", "--rounds=1"],
-    &["batch", "F1", "-"],
-    &["batch", "F1", "--rounds=65537"],
-    &["batch", "F1", "--rounds=1", "F2", "--rounds=1"],
-    &["batch", "F1", "--workers=0"],
-    &[
-        "batch", "1", "2", "3", "4", "5", "6", "7", "8", "9", "10", "11", "12", "13", "14", "15",
-        "16", "17",
-    ],
-    &["upgrade"],
-    &["upgrade", "F1"],
-    &["upgrade", "F1", "C1", "C2"],
-    &["upgrade", "F1", "C1", "--rounds=1"],
-    &["upgrade", "F1", "C1", "--workers", "1"],
-    &["Upgrade", "F1", "C1"],
-    &["--help"],
-    &["--version"],
-    &["--rounds", "0", "solve", "F1"],
-    &["--rounds=0", "solve", "F1"],
-    &["solve", "F1", "F1"],
-    &["solve", "F1", ""],
-    &["solve", "-"],
-    &["solve", "F1", "-"],
-    &["solve", "F1", "--"],
-    &["solve", "--", "F1"],
-    &["solve", "F1", "-r"],
-    &["solve", "F1", "--help"],
-    &["solve", "F1", "--rounds"],
-    &["solve", "F1", "--rounds="],
-    &["solve", "F1", "--rounds", ""],
-    &["solve", "F1", "--rounds=+1"],
-    &["solve", "F1", "--rounds", "+1"],
-    &["solve", "F1", "--rounds=-1"],
-    &["solve", "F1", "--rounds", "1 "],
-    &["solve", "F1", "--rounds=0x1"],
-    &["solve", "F1", "--rounds==1"],
-    &["solve", "F1", "--rounds 1"],
-    &["solve", "F1", "--round", "1"],
-    &["solve", "F1", "-rounds", "1"],
-    &["solve", "F1", "--Rounds", "1"],
-    &["solve", "F1", "--rounds", "65537"],
-    &["solve", "F1", "--rounds", "18446744073709551616"],
-    &[
-        "solve",
-        "F1",
-        "--rounds",
-        "340282366920938463463374607431768211457",
-    ],
-    &["solve", "F1", "--every", "0"],
-    &["solve", "F1", "--every", "65537"],
-    &["solve", "F1", "--scale", "0"],
-    &["solve", "F1", "--scale", "1048577"],
-    &["solve", "F1", "--workers", "0"],
-    &["solve", "F1", "--workers=65"],
-    &["solve", "F1", "--workers=2", "--workers=2"],
-    &["solve", "F1", "--rounds", "1", "--rounds", "1"],
-    &["solve", "F1", "--rounds=1", "--rounds", "1"],
-    &["solve", "F1", "--rounds", "1", "--rounds=1"],
-    &["info", "F1", "--rounds", "1"],
-    &["info", "--rounds=1", "F1"],
-    &["info", "F1", "--scale", "1"],
-    &["info", "F1", "F1"],
-    &["info", "-"],
-];
+/// Words that name no command, a row a line. The first row is an empty word.
+const REFUSED: &str = "
+solve
+info
+Solve|F1
+solve |F1
+sol|F1
+F1
+gen
+gen|1
+gen|65
+gen|F1
+gen|+3
+gen|3|4
+gen|3|--rounds=1
+drill
+drill|1
+drill|65
+drill|3|4
+drill|F1
+drill|3|--workers=0
+check
+check|F1
+check|F1|C1|C2
+check|F1|C1|--rounds=1
+check|F1|--
+plus
+plus|F1|F2
+plus|F1|--rounds|2049
+plus|F1|--rounds=65536
+plus|F1|--scale|0
+plus|F1|--scale|16385
+plus|F1|--scale=1048576
+plus|F1|--every=0
+plus|F1|--every|65537
+plus|F1|--workers=65
+Plus|F1
+solve|F1|--atomic
+solve|F1|--atomic=
+solve|F1|--atomic=2
+solve|F1|--atomic=1|--atomic=1
+solve|F1|--atomic=1|--atomic|0
+plus|F1|--atomic|2
+drill|3|--atomic=-1
+check|F1|C1|--atomic=1
+upgrade|F1|C1|--atomic=0
+info|F1|--atomic=1
+gen|3|--atomic=1
+batch|F1|--atomic=1
+batch|--atomic|0|F1
+batch
+batch|--rounds=1
+batch|F1|-
+batch|F1|--rounds=65537
+batch|F1|--rounds=1|F2|--rounds=1
+batch|F1|--workers=0
+batch|1|2|3|4|5|6|7|8|9|10|11|12|13|14|15|16|17
+upgrade
+upgrade|F1
+upgrade|F1|C1|C2
+upgrade|F1|C1|--rounds=1
+upgrade|F1|C1|--workers|1
+Upgrade|F1|C1
+--help
+--version
+--rounds|0|solve|F1
+--rounds=0|solve|F1
+solve|F1|F1
+solve|F1|
+solve|-
+solve|F1|-
+solve|F1|--
+solve|--|F1
+solve|F1|-r
+solve|F1|--help
+solve|F1|--rounds
+solve|F1|--rounds=
+solve|F1|--rounds|
+solve|F1|--rounds=+1
+solve|F1|--rounds|+1
+solve|F1|--rounds=-1
+solve|F1|--rounds|1\x20
+solve|F1|--rounds=0x1
+solve|F1|--rounds==1
+solve|F1|--rounds 1
+solve|F1|--round|1
+solve|F1|-rounds|1
+solve|F1|--Rounds|1
+solve|F1|--rounds|65537
+solve|F1|--rounds|18446744073709551616
+solve|F1|--rounds|340282366920938463463374607431768211457
+solve|F1|--every|0
+solve|F1|--every|65537
+solve|F1|--scale|0
+solve|F1|--scale|1048577
+solve|F1|--workers|0
+solve|F1|--workers=65
+solve|F1|--workers=2|--workers=2
+solve|F1|--rounds|1|--rounds|1
+solve|F1|--rounds=1|--rounds|1
+solve|F1|--rounds|1|--rounds=1
+info|F1|--rounds|1
+info|--rounds=1|F1
+info|F1|--scale|1
+info|F1|F1
+info|-";
+
+fn is_refused(alloc: Global, row: &str) -> Result<bool, AllocError> {
+    let mut words = Words::new(alloc);
+    for word in row.split('|') {
+        words.push(word)?;
+    }
+    Ok(words.command().is_none())
+}
 
 /// The first row of `REFUSED` whose words name a command.
-fn first_taken(alloc: Global) -> Result<Option<WordList>, AllocError> {
-    for row in REFUSED {
-        if !names(alloc, row, None)? {
+fn first_taken(alloc: Global) -> Result<Option<&'static str>, AllocError> {
+    for row in REFUSED.split('\n') {
+        if !is_refused(alloc, row)? {
             return Ok(Some(row));
         }
     }
@@ -472,6 +465,6 @@ fn first_taken(alloc: Global) -> Result<Option<WordList>, AllocError> {
 #[test]
 fn refuses_other_words(rt: HostRuntime) -> Result<(), Fail> {
     assert!(rt; Words::new(rt.alloc()).command().is_none());
-    assert_no_row(&rt, first_taken(rt.alloc())?);
+    assert_eq!(rt; first_taken(rt.alloc())?, None);
     Ok(())
 }
