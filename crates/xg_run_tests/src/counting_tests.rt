@@ -100,7 +100,7 @@ static CALLS: [Call; 11] = [
         words: "info game",
         text: INFO_OF_PENNIES,
         reads: 3,
-        writes: 29,
+        writes: 15,
     },
     Call {
         words: "gen 2",
