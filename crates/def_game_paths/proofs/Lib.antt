@@ -8,3 +8,4 @@ pub mod Counts
 pub mod Firsts
 pub mod Numbers
 pub mod Coming
+pub mod Standing

@@ -9,7 +9,7 @@ use Rattle.def_tree.specs.declared.Node.{Node}
 use Rattle.def_tree.specs.Rules.{most_nodes}
 use Rattle.def_tree.specs.Tree.{Forest, is_leaf_kind, leaf_count, node_count, prefix}
 use Rattle.xg_jobs.specs.declared.table.LeafRange.{LeafRange}
-use Rattle.xg_jobs.specs.Cutting.{AreJobs, AreJobsFrom, NoLeafBetween, leaves_before}
+use Rattle.xg_jobs.specs.Cutting.{AreJobs, AreJobsFrom, NoLeafBetween, leaf_count_before}
 use Rattle.xg_jobs.specs.Ranges.{range_of}
 use Rattle.xg_jobs.proofs.OnePassOverJobs.{FirstJob, first_job, top_inside}
 use Rattle.xg_jobs.proofs.StandingTrees.{leaves_behind}
@@ -18,7 +18,7 @@ abbrev leaves_in : Forest → ℕ
 leaves_in job = leaf_count (prefix job)
 
 -- no more leaves come before a node than nodes
-pub leaves_few : (tree : Forest) (k : ℕ) → leaves_before tree k ≤ k - 1
+pub leaves_few : (tree : Forest) (k : ℕ) → leaf_count_before tree k ≤ k - 1
 leaves_few tree k =
     let front : List Node = take (k - 1) (prefix tree) in
     omega (arith, count_by-le-length (λ node. is_leaf_kind node.kind) front, length-take (k - 1) (prefix tree))
@@ -29,7 +29,7 @@ pub record RangedSome (tree : Forest) (nodes : List ℕ) (ranges : List LeafRang
   pub rest : List Forest
   pub to_come : AreJobsFrom tree next (node_count tree + 1) (drop i nodes) rest
   pub whole : map range_of ranges ++ ranges_from first (map leaves_in rest) ≡ job_ranges tree
-  pub before : first ≡ leaves_before tree next
+  pub before : first ≡ leaf_count_before tree next
   pub inside : All (λ range. range.first ≤ most_nodes) ranges
   pub count : length ranges ≡ i
 
@@ -66,7 +66,7 @@ pub record RangedNext (tree : Forest) (nodes : List ℕ) (ranges : List LeafRang
   pub from_one : 1 ≤ node
   pub ordered : node ≤ to
   pub there : to ≤ node_count tree + 1
-  pub next : (count : ℕ) → leaves_before tree node + count ≡ leaves_before tree to → (r : LeafRange)
+  pub next : (count : ℕ) → leaf_count_before tree node + count ≡ leaf_count_before tree to → (r : LeafRange)
       → r ≡ record { first = first; count = count } → RangedSome tree nodes (ranges ++ r ∷ []) (first + count) (i + 1)
 
 -- the next job's leaves are those up to where it ends, and with its range behind the others one more job has its own
@@ -118,14 +118,14 @@ range_more tree nodes ranges first i node to some limit low read at = record {
         get_or-drop (i + 1) nodes 0 last ∙ ap (λ n. get_or nodes n last) zero ∙ sym at in
         subst (λ n. Ends tree behind n) is (ends tree behind (drop (i + 1) nodes) front.rest front.are)
 
-    same : first ≡ leaves_before tree node
+    same : first ≡ leaf_count_before tree node
     same = some.before ∙ front.is.before.no_leaf
 
-    leaves_are : (count : ℕ) → leaves_before tree node + count ≡ leaves_before tree to → count ≡ leaves_in front.job
+    leaves_are : (count : ℕ) → leaf_count_before tree node + count ≡ leaf_count_before tree to → count ≡ leaves_in front.job
     leaves_are count counts =
         omega (arith, counts, end.no_leaf.no_leaf, leaves_behind tree node front.job front.is.there)
 
-    room : (count : ℕ) → leaves_before tree node + count ≡ leaves_before tree to → first + count ≤ node_count tree
+    room : (count : ℕ) → leaf_count_before tree node + count ≡ leaf_count_before tree to → first + count ≤ node_count tree
     room count counts = omega (arith, same, counts, leaves_few tree to, end.there)
 
     single : (r : LeafRange) → r.first ≤ most_nodes → All (λ (range : LeafRange). range.first ≤ most_nodes) (r ∷ [])

@@ -11,7 +11,7 @@ use Rattle.def_tree.specs.declared.Node.{Node}
 use Rattle.def_tree.specs.Links.{children, children_from, children_of, roots_from}
 use Rattle.def_tree.specs.Rules.{is_same_kind}
 use Rattle.def_tree.specs.Tree.{Forest, bare, grown, node_count, prefix, is_leaf_kind, leaf_count}
-use Rattle.xg_jobs.specs.Cutting.{AreJobsFrom, NoLeafBetween, StandAt, leaves_before}
+use Rattle.xg_jobs.specs.Cutting.{AreJobsFrom, NoLeafBetween, StandAt, leaf_count_before}
 
 drop_behind : {A : Type 0} (xs ys zs : List A) (n : ℕ) → drop n xs ≡ ys ++ zs → drop (n + length ys) xs ≡ zs
 drop_behind xs ys zs n e = sym (drop-drop (length ys) n xs) ∙ ap (drop (length ys)) e ∙ drop-append_seam ys zs
@@ -143,7 +143,7 @@ stand_beside tree k node below beside s =
 
 -- behind trees come so many leaves more
 pub leaves_behind : (tree : Forest) (k : ℕ) (trees : Forest) → StandAt tree k trees
-    → leaves_before tree (k + node_count trees) ≡ leaves_before tree k + leaf_count (prefix trees)
+    → leaf_count_before tree (k + node_count trees) ≡ leaf_count_before tree k + leaf_count (prefix trees)
 leaves_behind tree k trees s =
     let at : k + node_count trees - 1 ≡ k - 1 + length (prefix trees) = omega (arith, s.from_one) in
     ap (λ n. leaf_count (take n (prefix tree))) at
@@ -162,7 +162,7 @@ pub chance_no_leaf : (tree : Forest) (k : ℕ) (node : Node) (below beside : For
 chance_no_leaf tree k node below beside s chance =
     let at : k + 1 - 1 ≡ k - 1 + 1 = omega (arith, s.from_one) in
     let behind : List Node = (prefix below ++ prefix beside) ++ s.later_nodes in
-    let more : leaves_before tree (k + 1) ≡ leaves_before tree k + leaf_count (node ∷ []) =
+    let more : leaf_count_before tree (k + 1) ≡ leaf_count_before tree k + leaf_count (node ∷ []) =
     ap (λ n. leaf_count (take n (prefix tree))) at
     ∙ ap leaf_count (take_behind (prefix tree) (node ∷ []) behind (k - 1) s.nodes)
     ∙ sum_by-append (λ node. cond (is_leaf_kind node.kind) 1 0) (take (k - 1) (prefix tree)) (node ∷ []) in
@@ -199,7 +199,7 @@ append_jobs tree a b end (k ∷ ks) ls (x ∷ xs) ys are more =
 -- each of some trees is a job
 pub each_job : (tree : Forest) (k : ℕ) (trees : Forest) → StandAt tree k trees
     → AreJobsFrom tree k (k + node_count trees) (roots_from k trees) (each_tree trees)
-each_job tree k bare s = record { ordered = omega arith; no_leaf = ap (leaves_before tree) (omega arith) }
+each_job tree k bare s = record { ordered = omega arith; no_leaf = ap (leaf_count_before tree) (omega arith) }
 each_job tree k (grown node below beside) s =
     let next : ℕ = k + 1 + node_count below in
     let end : ℕ = k + node_count (grown node below beside) in

@@ -5,8 +5,8 @@ use Rattle.def_tree.specs.Links.{children, children_from}
 use Rattle.def_tree.specs.Tree.{Forest, HasItsChildren, leaf_count, node_count, prefix, tree_count}
 
 -- how many leaves come before node k
-abbrev pub leaves_before : Forest → ℕ → ℕ
-leaves_before tree k = leaf_count (take (k - 1) (prefix tree))
+abbrev pub leaf_count_before : Forest → ℕ → ℕ
+leaf_count_before tree k = leaf_count (take (k - 1) (prefix tree))
 
 -- trees stand in the tree from node k on
 pub record StandAt (tree : Forest) (k : ℕ) (trees : Forest) : Type 0 where
@@ -20,7 +20,7 @@ pub record StandAt (tree : Forest) (k : ℕ) (trees : Forest) : Type 0 where
 -- from node k up to before another there is no leaf
 pub record NoLeafBetween (tree : Forest) (k next : ℕ) : Type 0 where
   pub ordered : k ≤ next
-  pub no_leaf : leaves_before tree k ≡ leaves_before tree next
+  pub no_leaf : leaf_count_before tree k ≡ leaf_count_before tree next
 
 -- the job's top node is node k, and from an earlier node on no leaf comes before it
 pub record IsJob (tree : Forest) (earlier k : ℕ) (job : Forest) : Type 0 where

@@ -5,14 +5,14 @@ ghost use Rattle.def_history.specs.Ranges.{job_ranges};
 ghost use Rattle.def_tree.specs.declared.Kind.TheVariants.{Chance};
 ghost use Rattle.def_tree.specs.Links.{children_of};
 ghost use Rattle.def_tree.specs.Rules.{is_same_kind};
-ghost use Rattle.def_tree.specs.Tree.{Forest, is_leaf_node, node_count};
-ghost use Rattle.xg_jobs.specs.Cutting.{AreJobs, leaves_before};
+ghost use Rattle.def_tree.specs.Tree.{Forest, node_count};
+ghost use Rattle.xg_jobs.specs.Cutting.{AreJobs, leaf_count_before};
 ghost use Rattle.xg_jobs.specs.Ranges.{KeepsRanges, range_of};
 
 use crate::table::LeafRange;
 use def_history::jobs::{MOST_JOBS, MOST_PASSES};
 use std::alloc::{AllocError, Global};
-use xg_tree::{Kind, Node, Tree};
+use xg_tree::{Kind, Node, Tree, is_leaf};
 
 /// The leaves of each job.
 pub(crate) fn ranges_of(alloc: Global, tree: &Tree) -> Result<Vec<LeafRange>, AllocError>
@@ -37,7 +37,7 @@ fn leaves_between(tree: &Tree, from: u32, to: u32) -> u32
     requires from_one { 1 ≤ from }
     requires ordered { from ≤ to }
     requires there { to ≤ node_count tree.now + 1 }
-    ensures { leaves_before tree.now from + result ≡ leaves_before tree.now to }
+    ensures { leaf_count_before tree.now from + result ≡ leaf_count_before tree.now to }
 {
     let mut leaves = 0;
     for k in from..to {
@@ -46,12 +46,6 @@ fn leaves_between(tree: &Tree, from: u32, to: u32) -> u32
         }
     }
     leaves
-}
-
-fn is_leaf(node: Node) -> bool
-    ensures { result ≡ is_leaf_node node }
-{
-    matches!(node.kind, Kind::Leaf)
 }
 
 // The top node of each job.

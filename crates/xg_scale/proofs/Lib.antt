@@ -4,7 +4,6 @@ pub mod GameLemmas
 pub mod SetLemmas
 pub mod JudgeLemmas
 pub mod PathLemmas
-pub mod Paths
 pub mod SumLemmas
 pub mod WeighLemmas
 pub mod WordLemmas

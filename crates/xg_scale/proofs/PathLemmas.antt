@@ -1,12 +1,8 @@
 -- A walk through the trees at a node's actions, below the nodes around it, finds the first fault among their nodes, or
 -- what their leaves are expected to pay.
-use Rattle.std.proofs.Common.{◌≡◌, ℕ, suc, ◌+◌, ◌-◌, ◌<◌, ◌≤◌, Bool, true, false, cond, List, [], ◌∷◌, ◌++◌, length, length-append, take, drop, map, refl, ap, sym, subst, ◌∙◌, arith, append-nil, append_assoc, inl, inr, Some, None, slice_get}
+use Rattle.std.proofs.Common.{◌≡◌, ℕ, suc, ◌+◌, ◌-◌, ◌<◌, ◌≤◌, Bool, true, false, cond, List, [], ◌∷◌, ◌++◌, length, length-append, take, drop, map, refl, ap, sym, subst, ◌∙◌, arith, append-nil, append_assoc, Some, None, slice_get}
 use Rattle.std.specs.Prelude.{Option, option_map, unwrap_or}
-use Rattle.std.proofs.lemmas.Bool.{cases_lt}
-use Rattle.std.proofs.lemmas.List.{drop-drop, length-map}
 use Rattle.std.proofs.lemmas.Option.{slice_get-get_or, slice_get-map}
-use Rattle.std.proofs.Math.ListN.{drop_of_length-le}
-use Rattle.std.proofs.Math.Seq.{drop-append_seam}
 use Rattle.def_tree.specs.declared.Kind.TheVariants.{Chance}
 use Rattle.def_tree.specs.declared.Node.{Node}
 use Rattle.def_tree.specs.Events.{Event, Enter, Leave, events_from}
@@ -19,7 +15,8 @@ use Rattle.def_file.specs.Faults.{set_at}
 use Rattle.def_file.specs.Game.{IsWholeGame}
 use Rattle.def_game_paths.specs.Coming.{no_visit, visit_after}
 use Rattle.def_game_paths.specs.Paths.{Move, Visit, visits, visits_from}
-use Rattle.def_game_paths.proofs.Coming.{IsNext, length-visits, next_visit}
+use Rattle.def_game_paths.proofs.Coming.{IsNext}
+use Rattle.def_game_paths.proofs.Standing.{StandsBefore, paths_below, stands_before}
 use Rattle.def_game_paths.proofs.Visits.{map-visits_from}
 use Rattle.def_game_scale.specs.Faults.{GameFault, Scale, found_by, node_fault}
 use Rattle.def_game_scale.specs.Scale.{expected_at, unit_so_far}
@@ -33,17 +30,13 @@ use Rattle.xg_scale.specs.declared.nodes.PathWalk.{PathWalk}
 use Rattle.xg_scale.specs.declared.path.NodeOnPath.{NodeOnPath}
 use Rattle.xg_scale.specs.FaultOfFile.{RefusesBy}
 use Rattle.xg_scale.specs.Leaf.{judged_node, known_with, unit_with, with_expected}
-use Rattle.xg_scale.specs.OnPath.{GoesBackTo, HasNodeAround, at_action, chance_set_of, entered_node, empty_path, innermost_of}
-use Rattle.xg_scale.specs.Walked.{Enters, HasEntered, HasLeft, IsBefore, IsExpectedOf, Leaves, MayCome, MayComeNext, MayEnter, MayLeave, Steps, UnlessRefused, all_fit, known_sum, next_fault, numbers_at_next, numbers_below, numbers_on_path, reach_below}
+use Rattle.xg_scale.specs.OnPath.{GoesBackTo, HasNodeAround, at_action, chance_set_of, entered_node, empty_path}
+use Rattle.xg_scale.specs.Walked.{Enters, HasEntered, HasLeft, IsBefore, IsExpectedOf, Leaves, MayCome, MayComeNext, MayEnter, MayLeave, all_fit, known_sum, next_fault, numbers_at_next, numbers_below, numbers_on_path, reach_below}
 use Rattle.xg_scale.proofs.FoundLemmas.{found_later, found_none, refuses_here}
 use Rattle.xg_scale.proofs.GameLemmas.{goes_with, in_chance_set, tree_rules}
 use Rattle.xg_scale.proofs.JudgeLemmas.{expected_all, expected_with, known_all, known_more, node_judged, unit_all, unit_from_one, unit_more}
+use Rattle.xg_tree.proofs.StoppedLemmas.{OrStopped, may_step, stepped}
 use Rattle.xg_tree.proofs.VisitorLemmas.{RunsTo, runs_enter, runs_leave, runs_none}
-
-length-visits_from : (above : ℕ → List Move) (action : ℕ) (trees : Forest)
-    → length (visits_from above action trees) ≡ node_count trees
-length-visits_from above action trees =
-    sym (length-map (visits_from above action trees) (λ (v : Visit). v.node)) ∙ ap length (map-visits_from above action trees)
 
 module _ (game : GameFile) (lowest : AreFractions (tables_of game)) (whole : IsWholeGame game) where
   abbrev tables : Tables
@@ -82,26 +75,16 @@ module _ (game : GameFile) (lowest : AreFractions (tables_of game)) (whole : IsW
 
   record GoesOn (n : ℕ) (innermost : NodeOnPath) (outer : List NodeOnPath) (walk : PathWalk) : Type 0 where
     passed : HasPassed n walk.expected
-    path_is : walk.path ≡ innermost ∷ outer
+    innermost_is : walk.innermost ≡ innermost
+    outer_is : walk.outer ≡ outer
 
   abbrev OrRefused : Option Refused → Type 0 → Type 0
-  OrRefused (Some refused) On = RefusesBy found refused
-  OrRefused None On = On
+  OrRefused = OrStopped (RefusesBy found)
 
   -- the visitor passed the first n nodes and stands below these, or was refused to go on
   record Stands (n : ℕ) (innermost : NodeOnPath) (outer : List NodeOnPath) (visitor : PathVisitor) : Type 0 where
     game_is : visitor.walk.game.now ≡ game
     stands : OrRefused visitor.refused (GoesOn n innermost outer visitor.walk)
-
-  may_step : (refused : Option Refused) {A B : Type 0} → OrRefused refused A → (A → B) → UnlessRefused refused B
-  may_step (Some r) stands may = tt
-  may_step None stands may = may stands
-
-  stepped : (old new : Option Refused) {R : Refused → Type 0} {A G B : Type 0} → OrRefused old A → Steps old new R G
-      → ((r : Refused) → A → R r → RefusesBy found r) → (A → G → B) → OrRefused new B
-  stepped (Some r) new {R} {A} {G} {B} stands same refuses on = subst (λ o. OrRefused o B) (sym same) stands
-  stepped None (Some r) stands step refuses on = refuses r stands step
-  stepped None None stands step refuses on = on stands step
 
   -- the reach below a node
   reach_from : (node : Node) (path : List Move) (a : ℕ) →
@@ -117,35 +100,20 @@ module _ (game : GameFile) (lowest : AreFractions (tables_of game)) (whole : IsW
     abbrev here : Visit
     here = record { path = above action; node = x }
 
-    abbrev down : ℕ → List Move
-    down = λ a. record { node = x; action = a } ∷ above action
-
-    abbrev behind : List Visit
-    behind = visits_from above (action + 1) beside ++ later
-
-    cons : drop n all ≡ here ∷ (visits_from down 1 below ++ behind)
-    cons =
-        next.visits_are ∙ ap (λ vs. here ∷ vs) (append_assoc (visits_from down 1 below) (visits_from above (action + 1) beside) later)
+    stands_here : StandsBefore game.tree n above action x below beside later
+    stands_here = stands_before game.tree rules n above action x below beside later next.visits_are
 
     there : n < node_count game.tree
-    there = elim (cases_lt n (length all)) [
-      | inl inside ↦ omega (arith, length-visits game.tree)
-      | inr past ↦
-          let none : [] ≡ here ∷ (visits_from down 1 below ++ behind) = sym (drop_of_length-le all past) ∙ cons in
-          cc none
-    ]
+    there = stands_here.there
 
     abbrev v : Visit
     v = visit_after game.tree n
 
     is_next : IsNext game.tree n v
-    is_next = next_visit game.tree n rules there
+    is_next = stands_here.is_next
 
     first : v ≡ here
-    first = let e : v ∷ drop (n + 1) all ≡ here ∷ (visits_from down 1 below ++ behind) = sym is_next.cons ∙ cons in cc
-
-    after : drop (n + 1) all ≡ visits_from down 1 below ++ behind
-    after = let e : v ∷ drop (n + 1) all ≡ here ∷ (visits_from down 1 below ++ behind) = sym is_next.cons ∙ cons in cc
+    first = stands_here.first
 
     read : slice_get (prefix game.tree) (n + 1 - 1) ≡ Some x
     read =
@@ -175,9 +143,9 @@ module _ (game : GameFile) (lowest : AreFractions (tables_of game)) (whole : IsW
     child = entered_node x (numbers_on_path tables here)
 
     -- the trees below the first node, and those beside it
-    below_next : AreNext (n + 1) down 1 below behind child
+    below_next : AreNext (n + 1) (paths_below x (above action)) 1 below (visits_from above (action + 1) beside ++ later) child
     below_next = record {
-      visits_are = after;
+      visits_are = stands_here.under;
       children = next.children.1;
       from_one = omega arith;
       room = omega (arith, few_children, next.children.0);
@@ -192,10 +160,7 @@ module _ (game : GameFile) (lowest : AreFractions (tables_of game)) (whole : IsW
         let trees : action + suc (tree_count beside) ≤ 1025 = next.room in
         let on : action + 1 + tree_count beside ≡ action + suc (tree_count beside) = omega arith in
         record {
-          visits_are =
-              sym (drop-drop (node_count below) (n + 1) all)
-              ∙ (λ i. drop (sym (length-visits_from down 1 below) i) (after i))
-              ∙ drop-append_seam (visits_from down 1 below) behind;
+          visits_are = stands_here.aside;
           children = next.children.2;
           from_one = omega arith;
           room = omega (arith, on, trees);
@@ -221,7 +186,7 @@ module _ (game : GameFile) (lowest : AreFractions (tables_of game)) (whole : IsW
     module _ (outer : List NodeOnPath) (walk : PathWalk) (same : walk.game.now ≡ game)
         (on : GoesOn n (at_action parent action) outer walk) where
       numbers_are : numbers_at_next walk x ≡ numbers_on_path tables here
-      numbers_are = (λ i. numbers_below (tables_of (same i)) (innermost_of (on.path_is i)) x) ∙ numbers_here
+      numbers_are = (λ i. numbers_below (tables_of (same i)) (on.innermost_is i) x) ∙ numbers_here
 
       numbers_at_visit : numbers_at_next walk x ≡ numbers_on_path tables v
       numbers_at_visit = numbers_are ∙ ap (numbers_on_path tables) (sym first)
@@ -233,7 +198,7 @@ module _ (game : GameFile) (lowest : AreFractions (tables_of game)) (whole : IsW
 
       may_come_next : MayComeNext walk x
       may_come_next = record {
-        action = subst (λ g. MayCome g (innermost_of walk.path)) (sym same) (subst (λ path. MayCome game (innermost_of path)) (sym on.path_is) may_come);
+        action = subst (λ g. MayCome g walk.innermost) (sym same) (subst (MayCome game) (sym on.innermost_is) may_come);
         outcome = subst (λ (g : GameFile). x.outcome ≤ length g.outcomes) (sym same) (goes_with game whole n x read).outcome;
         from_one = omega (arith, on.passed.unit, unit_from_one tables lowest (take n all));
         limit = on.passed.limit;
@@ -253,18 +218,19 @@ module _ (game : GameFile) (lowest : AreFractions (tables_of game)) (whole : IsW
           limit = entered.limit;
           fractions = entered.fractions ∙ (λ i. on.passed.fractions i ++ with_expected x (numbers_at_visit i)) ∙ sym (expected_with tables lowest game.tree rules n there x read);
         };
-        path_is = entered.path ∙ (λ i. entered_node x (numbers_are i) ∷ on.path_is i);
+        innermost_is = entered.innermost ∙ ap (entered_node x) numbers_are;
+        outer_is = entered.outer ∙ (λ i. on.innermost_is i ∷ on.outer_is i);
       }
 
     may_enter_first : (outer : List NodeOnPath) (visitor : PathVisitor)
         → Stands n (at_action parent action) outer visitor → MayEnter visitor (n + 1) x
-    may_enter_first outer visitor s = may_step visitor.refused s.stands (may_come_next outer visitor.walk s.game_is)
+    may_enter_first outer visitor s = may_step (RefusesBy found) visitor.refused s.stands (may_come_next outer visitor.walk s.game_is)
 
     first_entered : (outer : List NodeOnPath) (old new : PathVisitor) → Stands n (at_action parent action) outer old
         → Enters old (n + 1) x new → Stands (n + 1) child (at_action parent action ∷ outer) new
     first_entered outer old new s enters = record {
       game_is = enters.0 ∙ s.game_is;
-      stands = stepped old.refused new.refused s.stands enters.1 (λ r on. refused_here outer old.walk s.game_is on r) (λ on. goes_below outer old.walk s.game_is on new.walk);
+      stands = stepped (RefusesBy found) old.refused new.refused s.stands enters.1 (λ r on. refused_here outer old.walk s.game_is on r) (λ on. goes_below outer old.walk s.game_is on new.walk);
     }
 
     -- back from below the first node
@@ -272,20 +238,21 @@ module _ (game : GameFile) (lowest : AreFractions (tables_of game)) (whole : IsW
         → GoesOn m inner (at_action parent action ∷ outer) old → HasLeft old new
         → GoesOn m (at_action parent (action + 1)) outer new
     goes_back m inner outer old new on left =
-        record { passed = subst (HasPassed m) (sym left.expected) on.passed; path_is = subst (λ path. GoesBackTo path new.path) on.path_is left.back }
+        let back = subst (λ around. GoesBackTo around new.innermost new.outer) on.outer_is left.back in
+        record { passed = subst (HasPassed m) (sym left.expected) on.passed; innermost_is = back.0; outer_is = back.1 }
 
     may_leave_first : (m : ℕ) (inner : NodeOnPath) (outer : List NodeOnPath) (visitor : PathVisitor)
         → Stands m inner (at_action parent action ∷ outer) visitor → MayLeave visitor (n + 1)
     may_leave_first m inner outer visitor s =
         let room : action + suc (tree_count beside) ≤ 1025 = next.room in
-        may_step visitor.refused s.stands (λ on. subst HasNodeAround (sym on.path_is) (omega (arith, room)))
+        may_step (RefusesBy found) visitor.refused s.stands (λ on. subst HasNodeAround (sym on.outer_is) (omega (arith, room)))
 
     first_left : (m : ℕ) (inner : NodeOnPath) (outer : List NodeOnPath) (old new : PathVisitor)
         → Stands m inner (at_action parent action ∷ outer) old → Leaves old (n + 1) new
         → Stands m (at_action parent (action + 1)) outer new
     first_left m inner outer old new s leaves = record {
       game_is = leaves.0 ∙ s.game_is;
-      stands = stepped old.refused new.refused s.stands leaves.1 (λ r on none. absurd none) (λ on. goes_back m inner outer old.walk new.walk on);
+      stands = stepped (RefusesBy found) old.refused new.refused s.stands leaves.1 (λ r on none. absurd none) (λ on. goes_back m inner outer old.walk new.walk on);
     }
 
   -- how a visitor ends
@@ -321,7 +288,7 @@ module _ (game : GameFile) (lowest : AreFractions (tables_of game)) (whole : IsW
       (may_leave_first n above action x below beside later parent next m (at_action child (1 + tree_count below)) outer w stands)
       (λ u leaves. left u (first_left n above action x below beside later parent next m (at_action child (1 + tree_count below)) outer w u stands leaves)) in
       let into : (w : PathVisitor) → Enters v (n + 1) x w → Runs (events_from (n + 1 + 1) below ++ (Leave (n + 1) ∷ beyond)) w =
-      λ w enters. walks below (n + 1) (λ a. record { node = x; action = a } ∷ above action) 1 (visits_from above (action + 1) beside ++ later) child (at_action parent action ∷ outer)
+      λ w enters. walks below (n + 1) (paths_below x (above action)) 1 (visits_from above (action + 1) beside ++ later) child (at_action parent action ∷ outer)
       (below_next n above action x below beside later parent next) (Leave (n + 1) ∷ beyond) back w (first_entered n above action x below beside later parent next outer v w s enters) in
       subst (λ steps. Runs steps v)
       (ap (λ steps. Enter (n + 1) x ∷ steps) (sym (append_assoc (events_from (n + 1 + 1) below) (Leave (n + 1) ∷ events_from (n + 1 + 1 + node_count below) beside) rest)))
@@ -345,7 +312,8 @@ module _ (game : GameFile) (lowest : AreFractions (tables_of game)) (whole : IsW
     game_is = before.game_is;
     stands = subst (λ o. OrRefused o (GoesOn 0 empty_path [] visitor.walk)) (sym before.going) (record {
       passed = record { rest = refl; sum = before.sum; unit = before.unit ∙ sym (running tables lowest).start_unit; limit = omega (arith, before.unit); fractions = before.fractions };
-      path_is = before.path;
+      innermost_is = before.innermost;
+      outer_is = before.outer;
     });
   }
 

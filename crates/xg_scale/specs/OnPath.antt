@@ -23,19 +23,12 @@ at_action node action = record { chance_set = node.chance_set; action = action; 
 abbrev pub empty_path : NodeOnPath
 empty_path = record { chance_set = None; action = 1; numbers = record { reach = certain; one = zero_fraction; two = zero_fraction } }
 
--- the innermost node on a path
-abbrev pub innermost_of : List NodeOnPath → NodeOnPath
-innermost_of [] = empty_path
-innermost_of (innermost ∷ _) = innermost
-
--- a node is around the innermost, and its action leaves room for the next one
+-- a node is around, and its action leaves room for the next one
 abbrev pub HasNodeAround : List NodeOnPath → Type 0
 HasNodeAround [] = ⊥
-HasNodeAround (_ ∷ []) = ⊥
-HasNodeAround (_ ∷ around ∷ further) = around.action + 1 < 2 ^ 32
+HasNodeAround (around ∷ further) = around.action + 1 < 2 ^ 32
 
--- the innermost is left, and the node around it goes on at its next action
-abbrev pub GoesBackTo : List NodeOnPath → List NodeOnPath → Type 0
-GoesBackTo [] path = ⊥
-GoesBackTo (_ ∷ []) path = ⊥
-GoesBackTo (_ ∷ around ∷ further) path = path ≡ at_action around (around.action + 1) ∷ further
+-- of these nodes the innermost goes on at its next action, and the others stay around it
+abbrev pub GoesBackTo : List NodeOnPath → NodeOnPath → List NodeOnPath → Type 0
+GoesBackTo [] innermost outer = ⊥
+GoesBackTo (around ∷ further) innermost outer = (innermost ≡ at_action around (around.action + 1)) × (outer ≡ further)

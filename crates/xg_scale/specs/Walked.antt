@@ -12,15 +12,15 @@ use Rattle.def_game_scale.specs.Tables.{PayoffPair, Tables, game_sum, paid_toget
 use Rattle.def_game_scale.specs.Scale.{all_expected, game_unit}
 use Rattle.def_game_scale.specs.Faults.{GameFault, Scale, found_by, node_fault}
 use Rattle.def_game_numbers.specs.Numbers.{tables_of}
-use Rattle.xg_game.specs.declared.fault.Refused.{Refused}
 use Rattle.xg_scale.specs.FaultOfFile.{RefusesBy}
 use Rattle.xg_scale.specs.Leaf.{judged_node, known_with, unit_with, with_expected}
-use Rattle.xg_scale.specs.OnPath.{GoesBackTo, HasNodeAround, entered_node, empty_path, innermost_of}
+use Rattle.xg_scale.specs.OnPath.{GoesBackTo, HasNodeAround, entered_node, empty_path}
 use Rattle.xg_scale.specs.declared.leaf.Expected.{Expected}
 use Rattle.xg_scale.specs.declared.nodes.PathVisitor.{PathVisitor}
 use Rattle.xg_scale.specs.declared.nodes.PathWalk.{PathWalk}
 use Rattle.xg_scale.specs.declared.path.NodeOnPath.{NodeOnPath}
 use Rattle.xg_scale.specs.declared.path.PathNumbers.{PathNumbers}
+use Rattle.xg_tree.specs.Stopped.{Steps, UnlessStopped}
 
 abbrev pub paid_to : Player → PayoffPair → Fraction
 paid_to One payoffs = payoffs.one
@@ -62,14 +62,14 @@ MayCome game parent = (set : ℕ) → parent.chance_set ≡ Some set →
 
 -- the node may be the next child of the innermost
 pub record MayComeNext (walk : PathWalk) (node : Node) : Type 0 where
-  pub action : MayCome walk.game.now (innermost_of walk.path)
+  pub action : MayCome walk.game.now walk.innermost
   pub outcome : node.outcome ≤ length walk.game.now.outcomes
   pub from_one : 1 ≤ walk.expected.unit
   pub limit : walk.expected.unit ≤ most
 
 -- the numbers of its path
 abbrev pub numbers_at_next : PathWalk → Node → PathNumbers
-numbers_at_next walk node = numbers_below (tables_of walk.game.now) (innermost_of walk.path) node
+numbers_at_next walk node = numbers_below (tables_of walk.game.now) walk.innermost node
 
 -- what is wrong at it, under its number
 abbrev pub next_fault : PathWalk → ℕ → Node → Option GameFault
@@ -83,32 +83,23 @@ pub record HasEntered (old : PathWalk) (k : ℕ) (node : Node) (new : PathWalk) 
   pub unit : new.expected.unit ≡ unit_with node old.expected.sum old.expected.unit (numbers_at_next old node)
   pub limit : new.expected.unit ≤ most
   pub fractions : new.expected.fractions.items ≡ old.expected.fractions.items ++ with_expected node (numbers_at_next old node)
-  pub path : new.path ≡ entered_node node (numbers_at_next old node) ∷ old.path
+  pub innermost : new.innermost ≡ entered_node node (numbers_at_next old node)
+  pub outer : new.outer ≡ old.innermost ∷ old.outer
 
 -- the innermost is left
 pub record HasLeft (old new : PathWalk) : Type 0 where
   pub expected : new.expected ≡ old.expected
-  pub back : GoesBackTo old.path new.path
-
--- a step of a visitor, which does nothing more once it was refused to go on
-abbrev pub Steps : Option Refused → Option Refused → (Refused → Type 0) → Type 0 → Type 0
-Steps (Some refused) after Refuses GoesOn = after ≡ Some refused
-Steps None (Some refused) Refuses GoesOn = Refuses refused
-Steps None None Refuses GoesOn = GoesOn
-
-abbrev pub UnlessRefused : Option Refused → Type 0 → Type 0
-UnlessRefused (Some _) GoesOn = Unit {0}
-UnlessRefused None GoesOn = GoesOn
+  pub back : GoesBackTo old.outer new.innermost new.outer
 
 abbrev pub MayEnter : PathVisitor → ℕ → Node → Type 0
-MayEnter visitor k node = UnlessRefused visitor.refused (MayComeNext visitor.walk node)
+MayEnter visitor k node = UnlessStopped visitor.refused (MayComeNext visitor.walk node)
 
 abbrev pub Enters : PathVisitor → ℕ → Node → PathVisitor → Type 0
 Enters old k node new =
     (new.walk.game.now ≡ old.walk.game.now) × Steps old.refused new.refused (RefusesBy (next_fault old.walk k node)) (HasEntered old.walk k node new.walk)
 
 abbrev pub MayLeave : PathVisitor → ℕ → Type 0
-MayLeave visitor k = UnlessRefused visitor.refused (HasNodeAround visitor.walk.path)
+MayLeave visitor k = UnlessStopped visitor.refused (HasNodeAround visitor.walk.outer)
 
 abbrev pub Leaves : PathVisitor → ℕ → PathVisitor → Type 0
 Leaves old k new = (new.walk.game.now ≡ old.walk.game.now) × Steps old.refused new.refused (λ _. ⊥) (HasLeft old.walk new.walk)
@@ -117,7 +108,8 @@ Leaves old k new = (new.walk.game.now ≡ old.walk.game.now) × Steps old.refuse
 pub record IsBefore (game : GameFile) (visitor : PathVisitor) : Type 0 where
   pub going : visitor.refused ≡ None
   pub game_is : visitor.walk.game.now ≡ game
-  pub path : visitor.walk.path ≡ empty_path ∷ []
+  pub innermost : visitor.walk.innermost ≡ empty_path
+  pub outer : visitor.walk.outer ≡ []
   pub sum : visitor.walk.expected.sum ≡ None
   pub unit : visitor.walk.expected.unit ≡ 1
   pub fractions : visitor.walk.expected.fractions.items ≡ []

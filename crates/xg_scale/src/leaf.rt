@@ -3,7 +3,6 @@ ghost use Rattle.std.specs.Prelude.{◌≡◌, ◌≤◌, ◌%◌, ◌↔◌, �
 ghost use Rattle.def_fraction.specs.Divisors.{lcm};
 ghost use Rattle.def_fraction.specs.Fraction.{fits, most, product_of, sum_of};
 ghost use Rattle.def_game_scale.specs.Faults as faults;
-ghost use Rattle.def_tree.specs.Tree.{is_leaf_kind};
 ghost use Rattle.xg_scale.specs.FaultOfFile.{IsFaultOf, RefusesBy};
 ghost use Rattle.xg_scale.specs.Leaf.{judged_leaf, judged_node, known_with, leaf_unit, sum_from_first, unit_with, with_expected};
 
@@ -11,8 +10,8 @@ use crate::parts::{denominator, known};
 use crate::path::PathNumbers;
 use std::alloc::Global;
 use xg_frac::{Frac, OverLimit, add, lcm, mul, zero};
-use xg_game::{FileFault, Kind, Refused};
-use xg_tree::Node;
+use xg_game::{FileFault, Refused};
+use xg_tree::{Node, is_leaf};
 
 /// Of the leaves so far: what each pays both players together, which the first one tells; reach times player one's
 /// payoff at each; and the unit that makes all of this whole.
@@ -153,10 +152,4 @@ fn is_same(a: Frac, b: Frac) -> bool
     ensures { result ≡ faults.is_same a b }
 {
     a.num() == b.num() && a.den() == b.den()
-}
-
-pub(crate) fn is_leaf(node: Node) -> bool
-    ensures { result ≡ is_leaf_kind node.kind }
-{
-    matches!(node.kind, Kind::Leaf)
 }

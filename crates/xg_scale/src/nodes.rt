@@ -11,11 +11,11 @@ ghost use Rattle.xg_scale.specs.Walked.{HasEntered, HasLeft, IsBefore, IsExpecte
 
 use crate::leaf::Expected;
 use crate::parts::known;
-use crate::path::{NodeOnPath, PathNodes, PathNumbers};
+use crate::path::{NodeOnPath, PathNumbers, after_child, empty_path};
 use std::alloc::{AllocError, Global};
 use xg_frac::{Frac, OverLimit, add, mul};
 use xg_game::{FileFault, Game, Kind, Player, Refused};
-use xg_tree::{Node, Visitor};
+use xg_tree::{Ancestors, Node, Visitor};
 
 /// What each leaf is expected to pay, what it pays both players together, and the unit.
 pub(crate) fn expect(alloc: Global, game: &Game) -> Result<Expected, Refused>
@@ -47,7 +47,8 @@ impl<'a> PathVisitor<'a> {
         let fractions = Vec::with_capacity(alloc, game.tree().leaves() as usize)?;
         let walk = PathWalk {
             game,
-            path: PathNodes::new(alloc)?,
+            innermost: empty_path(),
+            outer: Ancestors::new(alloc),
             expected: Expected {
                 sum: None,
                 unit: 1,
@@ -91,7 +92,8 @@ impl<'a> Visitor for PathVisitor<'a> {
 #[derive(Drop)]
 struct PathWalk<'a> {
     game: &'a Game,
-    path: PathNodes,
+    innermost: NodeOnPath,
+    outer: Ancestors<NodeOnPath>,
     expected: Expected,
 }
 
@@ -104,22 +106,26 @@ impl<'a> PathWalk<'a> {
         ensures ok { OnOk result (HasEntered self.old k node self.new) }
         ensures err { IfErr result (RefusesBy (next_fault self.old k node)) }
     {
-        let Ok(numbers) = numbers_at(self.game, self.path.innermost(), node) else {
+        let Ok(numbers) = numbers_at(self.game, &self.innermost, node) else {
             return Err(Refused::File(FileFault::Scale { node: k }));
         };
         self.expected.judge(k, node, &numbers)?;
-        self.path.enter(before_children(node, numbers))?;
+        self.outer.push(self.innermost)?;
+        self.innermost = before_children(node, numbers);
         Ok(())
     }
 
     /// Goes back to the node around the innermost, at its next action.
     #[inline(always)]
     fn leave(&mut self)
-        requires { HasNodeAround self.old.path }
+        requires { HasNodeAround self.old.outer }
         ensures game { self.new.game.now ≡ self.old.game.now }
         ensures left { HasLeft self.old self.new }
     {
-        self.path.leave();
+        let Some(around) = self.outer.pop() else {
+            unreachable!()
+        };
+        self.innermost = after_child(&around);
     }
 }
 

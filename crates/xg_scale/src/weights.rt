@@ -12,13 +12,14 @@ ghost use Rattle.xg_scale.specs.FaultOfFile.{IsFaultOf, RefusesBy};
 ghost use Rattle.xg_scale.specs.Walked.{IsExpectedOf};
 ghost use Rattle.xg_scale.specs.Weighed.{HasWeighed, IsLeafWeighed};
 
-use crate::leaf::{Expected, is_leaf};
+use crate::leaf::Expected;
 use crate::parts::{denominator, is_negative, size};
 use def_sums::MOST_MASS;
 use std::alloc::Global;
 use std::marker::Model;
 use xg_frac::{Frac, OverLimit, zero};
 use xg_game::{FileFault, Game, Refused};
+use xg_tree::is_leaf;
 
 /// What each leaf of a game pays both players together, the unit of the game, the weights of its leaves in prefix order,
 /// and their mass, which is the sum of their sizes.

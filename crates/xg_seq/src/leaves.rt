@@ -2,14 +2,14 @@
 ghost use Rattle.std.specs.Prelude.{◌≡◌, ◌-◌, ◌<◌, ◌≤◌, IfOk, length, pos, Some, slice_get, slice_index_or};
 ghost use Rattle.def_sequence_form.specs.Sets.{tree_sets};
 ghost use Rattle.def_tree.specs.Rules.{IsGameTree};
-ghost use Rattle.def_tree.specs.Tree.{is_leaf_kind, leaf_count, prefix};
+ghost use Rattle.def_tree.specs.Tree.{leaf_count, prefix};
 ghost use Rattle.xg_seq.specs.Leaves.{AreLeaves};
 
 use crate::leaf::Leaf;
-use def_tree::{Kind, Node, Player};
+use def_tree::Player;
 use std::alloc::{AllocError, Global};
 use xg_sets::Sets;
-use xg_tree::Tree;
+use xg_tree::{Tree, is_leaf};
 
 /// The tree's leaves with their weights in turn.
 pub(crate) fn leaves_of(
@@ -34,12 +34,6 @@ pub(crate) fn leaves_of(
         }
     }
     Ok(leaves)
-}
-
-fn is_leaf(node: Node) -> bool
-    ensures { result ≡ is_leaf_kind node.kind }
-{
-    matches!(node.kind, Kind::Leaf)
 }
 
 // The leaf that is node `k`, with the weight at this place.

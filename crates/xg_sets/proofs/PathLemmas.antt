@@ -1,11 +1,7 @@
 -- A walk through the trees at a node's actions, below the movers around it, finds the first break of recall, or notes all
 -- nodes.
-use Rattle.std.proofs.Common.{◌≡◌, ℕ, suc, ◌+◌, ◌-◌, ◌<◌, ◌≤◌, true, false, cond, List, [], ◌∷◌, ◌++◌, length, length-append, drop, refl, ap, sym, subst, ◌∙◌, arith, append-nil, append_assoc, inl, inr, Some, None}
+use Rattle.std.proofs.Common.{◌≡◌, ℕ, suc, ◌+◌, ◌-◌, ◌<◌, ◌≤◌, true, false, cond, List, [], ◌∷◌, ◌++◌, length-append, drop, refl, ap, sym, subst, ◌∙◌, arith, append-nil, append_assoc, Some, None}
 use Rattle.std.specs.Prelude.{Option, sum}
-use Rattle.std.proofs.lemmas.Bool.{cases_lt}
-use Rattle.std.proofs.lemmas.List.{drop-drop, length-map}
-use Rattle.std.proofs.Math.ListN.{drop_of_length-le}
-use Rattle.std.proofs.Math.Seq.{drop-append_seam}
 use Rattle.def_tree.specs.declared.Kind.{Kind}
 use Rattle.def_tree.specs.declared.Kind.TheVariants.{Chance, One, Two, Leaf}
 use Rattle.def_tree.specs.declared.Node.{Node}
@@ -15,9 +11,8 @@ use Rattle.def_tree.specs.Rules.{IsGameTree, is_same_kind}
 use Rattle.def_game_paths.specs.Coming.{no_visit, visit_after}
 use Rattle.def_game_paths.specs.Paths.{Move, Visit, own_choices, visits, visits_from}
 use Rattle.def_game_paths.specs.Sequences.{first_sequence, sequence_at, sequence_number, set_sizes}
-use Rattle.def_game_paths.proofs.Coming.{IsNext, length-visits, next_visit}
+use Rattle.def_game_paths.proofs.Standing.{StandsBefore, paths_below, stands_before}
 use Rattle.def_game_paths.proofs.Counts.{each_sequence_is_in_range, sequences_are_few}
-use Rattle.def_game_paths.proofs.Visits.{map-visits_from}
 use Rattle.xg_sets.specs.declared.building.Building.{Building}
 use Rattle.xg_sets.specs.declared.building.RecallFault.{RecallFault}
 use Rattle.xg_sets.specs.declared.building.SetVisitor.{SetVisitor}
@@ -26,14 +21,10 @@ use Rattle.xg_sets.specs.declared.movers.Mover.{Mover}
 use Rattle.xg_sets.specs.declared.movers.Sequences.{Sequences}
 use Rattle.xg_sets.specs.Entered.{AreAt, AreAtFirstChild, AreTablesOf, FindsBreak, IsAtFirstChild, path_number}
 use Rattle.xg_sets.specs.Movers.{GoesBackTo, HasMoverAround, no_mover, sequences_after, step_of}
-use Rattle.xg_sets.specs.Walked.{Enters, HasEntered, HasLeft, IsBefore, Leaves, MayComeNext, MayEnter, MayLeave, Steps, UnlessFault}
+use Rattle.xg_sets.specs.Walked.{Enters, HasEntered, HasLeft, IsBefore, Leaves, MayComeNext, MayEnter, MayLeave}
 use Rattle.xg_sets.proofs.ShownLemmas.{no_sets, tables_start}
+use Rattle.xg_tree.proofs.StoppedLemmas.{OrStopped, may_step, stepped}
 use Rattle.xg_tree.proofs.VisitorLemmas.{RunsTo, runs_enter, runs_leave, runs_none}
-
-length-visits_from : (above : ℕ → List Move) (action : ℕ) (trees : Forest)
-    → length (visits_from above action trees) ≡ node_count trees
-length-visits_from above action trees =
-    sym (length-map (visits_from above action trees) (λ (v : Visit). v.node)) ∙ ap length (map-visits_from above action trees)
 
 one_after : (kind : Kind) (next : Sequences)
     → (sequences_after kind next).one ≡ next.one + cond (is_same_kind One kind) 1 0
@@ -86,23 +77,12 @@ module _ (tree : Forest) (game : IsGameTree tree) where
     outer_is : building.outer ≡ outer
 
   abbrev OrFault : Option RecallFault → Type 0 → Type 0
-  OrFault (Some fault) On = FindsBreak tree fault
-  OrFault None On = On
+  OrFault = OrStopped (FindsBreak tree)
 
   -- the visitor noted the first n nodes and stands below these, or has a fault
   record Stands (n : ℕ) (innermost : Mover) (outer : List Mover) (visitor : SetVisitor) : Type 0 where
     tree_is : visitor.building.tree.now ≡ tree
     stands : OrFault visitor.fault (GoesOn n innermost outer visitor.building)
-
-  may_step : (fault : Option RecallFault) {A B : Type 0} → OrFault fault A → (A → B) → UnlessFault fault B
-  may_step (Some fault) stands may = tt
-  may_step None stands may = may stands
-
-  stepped : (old new : Option RecallFault) {R : RecallFault → Type 0} {A G B : Type 0} → OrFault old A → Steps old new R G
-      → ((fault : RecallFault) → R fault → FindsBreak tree fault) → (A → G → B) → OrFault new B
-  stepped (Some fault) new {R} {A} {G} {B} stands same finds on = subst (λ o. OrFault o B) (sym same) stands
-  stepped None (Some fault) stands step finds on = finds fault step
-  stepped None None stands step finds on = on stands step
 
   -- the number of the kind's sequence at a first child
   first_number : (kind : Kind) (node : Node) (path : List Move) (s : ℕ)
@@ -142,41 +122,26 @@ module _ (tree : Forest) (game : IsGameTree tree) where
     here = record { path = above action; node = x }
 
     abbrev down : ℕ → List Move
-    down = λ a. record { node = x; action = a } ∷ above action
+    down = paths_below x (above action)
 
-    abbrev behind : List Visit
-    behind = visits_from above (action + 1) beside ++ later
-
-    cons : drop n all ≡ here ∷ (visits_from down 1 below ++ behind)
-    cons =
-        next.visits_are ∙ ap (λ vs. here ∷ vs) (append_assoc (visits_from down 1 below) (visits_from above (action + 1) beside) later)
+    stands_here : StandsBefore tree n above action x below beside later
+    stands_here = stands_before tree game n above action x below beside later next.visits_are
 
     there : n < node_count tree
-    there = elim (cases_lt n (length all)) [
-      | inl inside ↦ omega (arith, length-visits tree)
-      | inr past ↦
-          let none : [] ≡ here ∷ (visits_from down 1 below ++ behind) = sym (drop_of_length-le all past) ∙ cons in
-          cc none
-    ]
+    there = stands_here.there
 
     abbrev v : Visit
     v = visit_after tree n
 
-    is_next : IsNext tree n v
-    is_next = next_visit tree n game there
-
     first : v ≡ here
-    first = let e : v ∷ drop (n + 1) all ≡ here ∷ (visits_from down 1 below ++ behind) = sym is_next.cons ∙ cons in cc
-
-    after : drop (n + 1) all ≡ visits_from down 1 below ++ behind
-    after = let e : v ∷ drop (n + 1) all ≡ here ∷ (visits_from down 1 below ++ behind) = sym is_next.cons ∙ cons in cc
+    first = stands_here.first
 
     visit_is : visit_after tree (n + 1 - 1) ≡ here
     visit_is = let index : n + 1 - 1 ≡ n = omega arith in ap (visit_after tree) index ∙ first
 
     small : (kind : Kind) → is_leaf_kind kind ≡ false → path_number kind tree (above action) < 1048576
     small kind inner =
-        let range = each_sequence_is_in_range tree game kind inner n no_visit is_next.there in
+        let range = each_sequence_is_in_range tree game kind inner n no_visit stands_here.is_next.there in
         let few = sequences_are_few tree game kind inner in
         let below : sequence_at kind tree v < 1 + sum (set_sizes kind tree) = range.below in
         let few_sequences : 1 + sum (set_sizes kind tree) ≤ node_count tree = few.few_sequences in
@@ -184,18 +149,11 @@ module _ (tree : Forest) (game : IsGameTree tree) where
         subst (λ w. sequence_at kind tree w < 1048576) first (omega arith)
 
     -- the trees below the first node, and those beside it
-    below_next : AreNext (n + 1) down 1 below behind x.kind
-    below_next = record { visits_are = after; from_one = omega arith; goes_on = sequences_follow x (above action) }
+    below_next : AreNext (n + 1) down 1 below (visits_from above (action + 1) beside ++ later) x.kind
+    below_next = record { visits_are = stands_here.under; from_one = omega arith; goes_on = sequences_follow x (above action) }
 
     beside_next : AreNext (n + 1 + node_count below) above (action + 1) beside later kind
-    beside_next = record {
-      visits_are =
-          sym (drop-drop (node_count below) (n + 1) all)
-          ∙ (λ i. drop (sym (length-visits_from down 1 below) i) (after i))
-          ∙ drop-append_seam (visits_from down 1 below) behind;
-      from_one = omega arith;
-      goes_on = next.goes_on;
-    }
+    beside_next = record { visits_are = stands_here.aside; from_one = omega arith; goes_on = next.goes_on }
 
     module _ (outer : List Mover) (building : Building) (same : building.tree.now ≡ tree)
         (on : GoesOn n (mover_at kind above action) outer building) where
@@ -230,13 +188,13 @@ module _ (tree : Forest) (game : IsGameTree tree) where
 
     may_enter_first : (outer : List Mover) (visitor : SetVisitor)
         → Stands n (mover_at kind above action) outer visitor → MayEnter visitor (n + 1) x
-    may_enter_first outer visitor s = may_step visitor.fault s.stands (may_come_next outer visitor.building s.tree_is)
+    may_enter_first outer visitor s = may_step (FindsBreak tree) visitor.fault s.stands (may_come_next outer visitor.building s.tree_is)
 
     first_entered : (outer : List Mover) (old new : SetVisitor) → Stands n (mover_at kind above action) outer old
         → Enters old (n + 1) x new → Stands (n + 1) (mover_at x.kind down 1) (mover_at kind above action ∷ outer) new
     first_entered outer old new s enters = record {
       tree_is = enters.0 ∙ s.tree_is;
-      stands = stepped old.fault new.fault s.stands enters.1 (λ fault finds. subst (λ t. FindsBreak t fault) s.tree_is finds) (λ on. goes_below outer old.building s.tree_is on new.building);
+      stands = stepped (FindsBreak tree) old.fault new.fault s.stands enters.1 (λ fault on finds. subst (λ t. FindsBreak t fault) s.tree_is finds) (λ on. goes_below outer old.building s.tree_is on new.building);
     }
 
     -- back from below the first node
@@ -261,14 +219,14 @@ module _ (tree : Forest) (game : IsGameTree tree) where
     may_leave_first : (m : ℕ) (inner : Mover) (outer : List Mover) (visitor : SetVisitor)
         → Stands m inner (mover_at kind above action ∷ outer) visitor → MayLeave visitor (n + 1)
     may_leave_first m inner outer visitor s =
-        may_step visitor.fault s.stands (λ on. subst HasMoverAround (sym on.outer_is) (room_around outer))
+        may_step (FindsBreak tree) visitor.fault s.stands (λ on. subst HasMoverAround (sym on.outer_is) (room_around outer))
 
     first_left : (m : ℕ) (inner : Mover) (outer : List Mover) (old new : SetVisitor)
         → Stands m inner (mover_at kind above action ∷ outer) old → Leaves old (n + 1) new
         → Stands m (mover_at kind above (action + 1)) outer new
     first_left m inner outer old new s leaves = record {
       tree_is = leaves.0 ∙ s.tree_is;
-      stands = stepped old.fault new.fault s.stands leaves.1 (λ fault none. absurd none) (λ on. goes_back m inner outer old.building new.building on);
+      stands = stepped (FindsBreak tree) old.fault new.fault s.stands leaves.1 (λ fault on none. absurd none) (λ on. goes_back m inner outer old.building new.building on);
     }
 
   -- how a visitor ends

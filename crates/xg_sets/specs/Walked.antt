@@ -1,14 +1,14 @@
 -- A walk that notes each node in the sets, and what it finds.
-use Rattle.std.specs.Prelude.{◌≡◌, ℕ, ◌-◌, ◌≤◌, [], ◌∷◌, Option, Some, None}
+use Rattle.std.specs.Prelude.{◌≡◌, ℕ, ◌-◌, ◌≤◌, [], ◌∷◌, None}
 use Rattle.def_tree.specs.declared.Node.{Node}
 use Rattle.def_tree.specs.Tree.{Forest, node_count}
 use Rattle.def_tree.specs.Rules.{IsGameTree}
 use Rattle.def_game_paths.specs.Coming.{visit_after}
 use Rattle.xg_sets.specs.declared.building.Building.{Building}
-use Rattle.xg_sets.specs.declared.building.RecallFault.{RecallFault}
 use Rattle.xg_sets.specs.declared.building.SetVisitor.{SetVisitor}
 use Rattle.xg_sets.specs.Entered.{AreAt, AreAtFirstChild, AreTablesOf, FindsBreak}
 use Rattle.xg_sets.specs.Movers.{GoesBackTo, HasMoverAround, no_mover, step_of}
+use Rattle.xg_tree.specs.Stopped.{Steps, UnlessStopped}
 
 -- the tables are those of the nodes before node k, and the innermost has the sequences at it
 pub record MayComeNext (tree : Forest) (k : ℕ) (building : Building) : Type 0 where
@@ -30,25 +30,15 @@ pub record HasLeft (old new : Building) : Type 0 where
   pub tables : new.tables ≡ old.tables
   pub back : GoesBackTo old.outer new.innermost new.outer
 
--- a step of a visitor, which does nothing more once it has a fault
-abbrev pub Steps : Option RecallFault → Option RecallFault → (RecallFault → Type 0) → Type 0 → Type 0
-Steps (Some fault) after Finds GoesOn = after ≡ Some fault
-Steps None (Some fault) Finds GoesOn = Finds fault
-Steps None None Finds GoesOn = GoesOn
-
-abbrev pub UnlessFault : Option RecallFault → Type 0 → Type 0
-UnlessFault (Some _) GoesOn = Unit {0}
-UnlessFault None GoesOn = GoesOn
-
 abbrev pub MayEnter : SetVisitor → ℕ → Node → Type 0
-MayEnter visitor k node = UnlessFault visitor.fault (MayComeNext visitor.building.tree.now k visitor.building)
+MayEnter visitor k node = UnlessStopped visitor.fault (MayComeNext visitor.building.tree.now k visitor.building)
 
 abbrev pub Enters : SetVisitor → ℕ → Node → SetVisitor → Type 0
 Enters old k node new =
     (new.building.tree.now ≡ old.building.tree.now) × Steps old.fault new.fault (FindsBreak old.building.tree.now) (HasEntered old.building.tree.now k node old.building new.building)
 
 abbrev pub MayLeave : SetVisitor → ℕ → Type 0
-MayLeave visitor k = UnlessFault visitor.fault (HasMoverAround visitor.building.outer)
+MayLeave visitor k = UnlessStopped visitor.fault (HasMoverAround visitor.building.outer)
 
 abbrev pub Leaves : SetVisitor → ℕ → SetVisitor → Type 0
 Leaves old k new =

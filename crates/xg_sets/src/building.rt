@@ -10,13 +10,13 @@ ghost use Rattle.xg_sets.specs.Entered.{AreAt, AreAtFirstChild, AreTablesOf, Fin
 ghost use Rattle.xg_sets.specs.Movers.{HasMoverAround};
 ghost use Rattle.xg_sets.specs.Walked.{HasEntered, HasLeft, IsBefore, MayComeNext};
 
-use crate::movers::{Mover, OuterMovers, Sequences, after_child, no_mover, step_of};
+use crate::movers::{Mover, Sequences, after_child, no_mover, step_of};
 use crate::next_nodes::NextNodes;
 use crate::sets::Sets;
 use crate::table::FoundSets;
 use std::alloc::{AllocError, Global};
 use thiserror::Error;
-use xg_tree::{Kind, Node, Tree, Visitor};
+use xg_tree::{Ancestors, Kind, Node, Tree, Visitor};
 
 /// Why a tree has no sets.
 #[derive(Debug, Drop, PartialEq, Eq, Error)]
@@ -82,7 +82,7 @@ impl<'a> SetVisitor<'a> {
             tree,
             tables,
             innermost: no_mover(),
-            outer: OuterMovers::new(alloc),
+            outer: Ancestors::new(alloc),
         };
         Ok(SetVisitor {
             building,
@@ -121,7 +121,7 @@ struct Building<'a> {
     tree: &'a Tree,
     tables: FoundTables,
     innermost: Mover,
-    outer: OuterMovers,
+    outer: Ancestors<Mover>,
 }
 
 impl<'a> Building<'a> {

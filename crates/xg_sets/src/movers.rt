@@ -1,10 +1,8 @@
 //! The nodes on the path that a walk stands at, with the sequences at their children.
-ghost use Rattle.std.specs.Prelude.{◌≡◌, ◌+◌, ◌^◌, ◌<◌, [], ◌∷◌, IfSome, IsNone, OnOk};
+ghost use Rattle.std.specs.Prelude.{◌≡◌, ◌+◌, ◌^◌, ◌<◌};
 ghost use Rattle.xg_sets.specs.Movers.{after, no_mover, step_of};
 
 use def_tree::Kind;
-use std::alloc::{AllocError, Global};
-use std::marker::Model;
 
 /// The numbers of both players' sequences at a node.
 #[derive(Clone, Copy)]
@@ -19,45 +17,6 @@ pub(crate) struct Sequences {
 pub(crate) struct Mover {
     pub(crate) next: Sequences,
     pub(crate) step: Sequences,
-}
-
-/// The movers around the innermost one, each at a node within the ones before it.
-#[derive(Drop)]
-pub(crate) struct OuterMovers {
-    movers: Vec<Mover>,
-}
-
-impl Model for OuterMovers {
-    ghost use Rattle.std.specs.Prelude.{List, reverse};
-    ghost use Rattle.xg_sets.specs.declared.movers.Mover.{Mover};
-
-    ghost Value = { List Mover };
-
-    ghost view = { λ o. reverse o.movers.items };
-}
-
-impl OuterMovers {
-    pub(crate) fn new(alloc: Global) -> OuterMovers
-        ensures { result ≡ [] }
-    {
-        OuterMovers {
-            movers: Vec::new(alloc),
-        }
-    }
-
-    pub(crate) fn push(&mut self, mover: Mover) -> Result<(), AllocError>
-        ensures { OnOk result (self.new ≡ mover ∷ self.old) }
-    {
-        self.movers.push(mover)?;
-        Ok(())
-    }
-
-    pub(crate) fn pop(&mut self) -> Option<Mover>
-        ensures some { IfSome result (λ mover. self.old ≡ mover ∷ self.new) }
-        ensures none { IsNone result → self.old ≡ [] }
-    {
-        self.movers.pop()
-    }
 }
 
 /// What is around the whole tree.

@@ -5,3 +5,4 @@ pub mod VisitsLemmas
 pub mod LinkedLemmas
 pub mod JoinedLemmas
 pub mod VisitorLemmas
+pub mod StoppedLemmas

@@ -3,3 +3,4 @@ pub mod Sizes
 pub mod Built
 pub mod Visits
 pub mod Linked
+pub mod Stopped

@@ -3,14 +3,14 @@ ghost use Rattle.std.specs.Prelude.{◌≡◌, ◌-◌, ◌≤◌, length, slice
 ghost use Rattle.def_tree.specs.Events.{Accepts, Leads, events};
 ghost use Rattle.def_tree.specs.Links.{first_child_of, next_sibling_of, parent_of};
 ghost use Rattle.def_tree.specs.Rules.{IsGameTree};
-ghost use Rattle.def_tree.specs.Tree.{forest_of, leaf_count, node_count, prefix};
+ghost use Rattle.def_tree.specs.Tree.{forest_of, is_leaf_node, leaf_count, node_count, prefix};
 ghost use Rattle.xg_tree.specs.Kept.{IsKeptTree};
 ghost use Rattle.xg_tree.specs.Linked.{ComeAfterParents};
 ghost use Rattle.xg_tree.specs.Visits.{leaving, visit_events};
 
 use crate::links::{Links, left_after, links_at, numbered};
 use crate::visitor::Visitor;
-use def_tree::Node;
+use def_tree::{Kind, Node};
 use std::marker::Model;
 
 /// The whole tree of a game.
@@ -120,6 +120,13 @@ impl Tree {
             visit(&self.links, at as u32 + 1, *node, visitor);
         }
     }
+}
+
+/// Whether a node is a leaf.
+pub fn is_leaf(node: Node) -> bool
+    ensures { result ≡ is_leaf_node node }
+{
+    matches!(node.kind, Kind::Leaf)
 }
 
 // Enters node `k`. Where it has no child it is left, and with it each node above whose last child is left.
