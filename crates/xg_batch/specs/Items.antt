@@ -1,7 +1,7 @@
 -- What becomes of the files of a batch.
---     batch_entry_seen                        an entry, as the definitions have it
---     IsItemOf settings entry item      the item of an entry, where this is asked
---     AreItemsOf settings entries items of each entry its item, in order
+--     batch_entry_seen                    an entry, as the definitions have it
+--     IsItemOf settings entry item        the item of an entry, where this is asked
+--     AreItemsOf settings entries items   of each entry its item, in order
 use Rattle.std.specs.Prelude.{◌≡◌, ℕ, ◌≤◌, List, Some, None, Err, IfSome, IsOkAnd}
 use Rattle.std.specs.List.{AllZip}
 use Rattle.def_file.specs.Content.{GameFile}

@@ -337,7 +337,7 @@ fn takes_any_word_as_a_file(rt: HostRuntime) -> Result<(), Fail> {
     Ok(())
 }
 
-/// Words that name no command, a row a line. The first row is an empty word.
+/// Words that name no command, a row a line, parted by `|`. The first row is an empty word.
 const REFUSED: &str = "
 solve
 info
