@@ -1,12 +1,12 @@
 -- A walk through the trees at a node's actions, below the nodes around it, finds the first fault among their nodes, or
 -- what their leaves are expected to pay.
-use Rattle.std.proofs.Common.{◌≡◌, ℕ, suc, ◌+◌, ◌-◌, ◌<◌, ◌≤◌, Bool, true, false, cond, List, [], ◌∷◌, ◌++◌, length, length-append, take, drop, map, refl, ap, sym, subst, ◌∙◌, arith, append-nil, append_assoc, Some, None, slice_get}
+use Rattle.std.proofs.Common.{◌≡◌, ℕ, suc, ◌+◌, ◌-◌, ◌<◌, ◌≤◌, Bool, true, false, cond, List, [], ◌∷◌, ◌++◌, length, take, drop, map, refl, ap, sym, subst, ◌∙◌, arith, append-nil, Some, None, slice_get}
 use Rattle.std.specs.Prelude.{Option, option_map, unwrap_or}
 use Rattle.std.proofs.lemmas.Option.{slice_get-get_or, slice_get-map}
 use Rattle.def_tree.specs.declared.Kind.TheVariants.{Chance}
 use Rattle.def_tree.specs.declared.Node.{Node}
-use Rattle.def_tree.specs.Events.{Event, Enter, Leave, events_from}
-use Rattle.def_tree.specs.Tree.{Forest, bare, grown, HasItsChildren, node_count, prefix, tree_count}
+use Rattle.def_tree.specs.Events.{Event, events_from}
+use Rattle.def_tree.specs.Tree.{Forest, grown, HasItsChildren, node_count, prefix, tree_count}
 use Rattle.def_tree.specs.Rules.{Fits, IsGameTree, is_same_kind}
 use Rattle.def_tree.proofs.Sets.{children-le, is_same_kind-true}
 use Rattle.def_fraction.specs.Fraction.{most, product_of, sum_of, zero_fraction}
@@ -35,8 +35,9 @@ use Rattle.xg_scale.specs.Walked.{Enters, HasEntered, HasLeft, IsBefore, IsExpec
 use Rattle.xg_scale.proofs.FoundLemmas.{found_later, found_none, refuses_here}
 use Rattle.xg_scale.proofs.GameLemmas.{goes_with, in_chance_set, tree_rules}
 use Rattle.xg_scale.proofs.JudgeLemmas.{expected_all, expected_with, known_all, known_more, node_judged, unit_all, unit_from_one, unit_more}
+use Rattle.xg_tree.proofs.BelowLemmas.{KeepsPlaces, walked}
 use Rattle.xg_tree.proofs.StoppedLemmas.{OrStopped, may_step, stepped}
-use Rattle.xg_tree.proofs.VisitorLemmas.{RunsTo, runs_enter, runs_leave, runs_none}
+use Rattle.xg_tree.proofs.VisitorLemmas.{RunsTo}
 
 module _ (game : GameFile) (lowest : AreFractions (tables_of game)) (whole : IsWholeGame game) where
   abbrev tables : Tables
@@ -51,19 +52,27 @@ module _ (game : GameFile) (lowest : AreFractions (tables_of game)) (whole : IsW
   rules : IsGameTree game.tree
   rules = tree_rules game whole
 
-  -- behind the first n nodes come trees at the actions of a node, from one on, and then later nodes;
-  -- the node has the numbers of the path to each of its children
-  record AreNext (n : ℕ) (above : ℕ → List Move) (action : ℕ) (trees : Forest) (later : List Visit)
-      (parent : NodeOnPath) : Type 0 where
-    visits_are : drop n all ≡ visits_from above action trees ++ later
+  -- a place in the game: the trees at the actions of a node, from one on, and then later nodes
+  record Place : Type 0 where
+    above : ℕ → List Move
+    action : ℕ
+    later : List Visit
+    parent : NodeOnPath
+
+  abbrev around : Place → NodeOnPath
+  around place = at_action place.parent place.action
+
+  -- these trees and later nodes come behind the first n nodes; the node has the numbers of the path to each of its children
+  record AreNext (n : ℕ) (place : Place) (trees : Forest) : Type 0 where
+    visits_are : drop n all ≡ visits_from place.above place.action trees ++ place.later
     children : HasItsChildren trees
-    from_one : 1 ≤ action
-    room : action + tree_count trees ≤ 1025
-    set : (set : ℕ) → parent.chance_set ≡ Some set →
-        (1 ≤ set) × (set ≤ length game.sets.chance) × (action + tree_count trees ≡ length (set_at game.sets.chance (set - 1)).actions + 1)
-    reach_is : (a : ℕ) → reach tables (above a) ≡ reach_below tables parent.chance_set a parent.numbers.reach
-    one : (a : ℕ) → path_payoff (λ payoffs. payoffs.one) tables (above a) ≡ parent.numbers.one
-    two : (a : ℕ) → path_payoff (λ payoffs. payoffs.two) tables (above a) ≡ parent.numbers.two
+    from_one : 1 ≤ place.action
+    room : place.action + tree_count trees ≤ 1025
+    set : (set : ℕ) → place.parent.chance_set ≡ Some set → (1 ≤ set) × (set ≤ length game.sets.chance)
+        × (place.action + tree_count trees ≡ length (set_at game.sets.chance (set - 1)).actions + 1)
+    reach_is : (a : ℕ) → reach tables (place.above a) ≡ reach_below tables place.parent.chance_set a place.parent.numbers.reach
+    one : (a : ℕ) → path_payoff (λ payoffs. payoffs.one) tables (place.above a) ≡ place.parent.numbers.one
+    two : (a : ℕ) → path_payoff (λ payoffs. payoffs.two) tables (place.above a) ≡ place.parent.numbers.two
 
   -- the first n nodes have no fault
   record HasPassed (n : ℕ) (expected : Expected) : Type 0 where
@@ -95,13 +104,35 @@ module _ (game : GameFile) (lowest : AreFractions (tables_of game)) (whole : IsW
         | false ↦ refl
       ]
 
-  module _ (n : ℕ) (above : ℕ → List Move) (action : ℕ) (x : Node) (below beside : Forest) (later : List Visit)
-      (parent : NodeOnPath) (next : AreNext n above action (grown x below beside) later parent) where
+  abbrev child : Place → Node → NodeOnPath
+  child place x = entered_node x (numbers_on_path tables (record { path = place.above place.action; node = x }))
+
+  abbrev place_below : Place → Node → Forest → Place
+  place_below place x beside = record {
+    above = paths_below x (place.above place.action);
+    action = 1;
+    later = visits_from place.above (place.action + 1) beside ++ place.later;
+    parent = child place x;
+  }
+
+  abbrev place_beside : Place → Node → Forest → Place
+  place_beside place x beside = record { above = place.above; action = place.action + 1; later = place.later; parent = place.parent }
+
+  module _ (n : ℕ) (place : Place) (x : Node) (below beside : Forest) (next : AreNext n place (grown x below beside)) where
+    abbrev above : ℕ → List Move
+    above = place.above
+
+    abbrev action : ℕ
+    action = place.action
+
+    abbrev parent : NodeOnPath
+    parent = place.parent
+
     abbrev here : Visit
     here = record { path = above action; node = x }
 
-    stands_here : StandsBefore game.tree n above action x below beside later
-    stands_here = stands_before game.tree rules n above action x below beside later next.visits_are
+    stands_here : StandsBefore game.tree n above action x below beside place.later
+    stands_here = stands_before game.tree rules n above action x below beside place.later next.visits_are
 
     there : n < node_count game.tree
     there = stands_here.there
@@ -139,11 +170,8 @@ module _ (game : GameFile) (lowest : AreFractions (tables_of game)) (whole : IsW
         let InTable : ℕ → Type 0 = λ s. (1 ≤ s) × (s ≤ length game.sets.chance) × (1 + tree_count below ≡ length (set_at game.sets.chance (s - 1)).actions + 1) in
         subst InTable is.1 (known.from_one, known.there, omega (arith, known.actions, next.children.0))
 
-    abbrev child : NodeOnPath
-    child = entered_node x (numbers_on_path tables here)
-
     -- the trees below the first node, and those beside it
-    below_next : AreNext (n + 1) (paths_below x (above action)) 1 below (visits_from above (action + 1) beside ++ later) child
+    below_next : AreNext (n + 1) (place_below place x beside) below
     below_next = record {
       visits_are = stands_here.under;
       children = next.children.1;
@@ -155,7 +183,7 @@ module _ (game : GameFile) (lowest : AreFractions (tables_of game)) (whole : IsW
       two = λ a. refl;
     }
 
-    beside_next : AreNext (n + 1 + node_count below) above (action + 1) beside later parent
+    beside_next : AreNext (n + 1 + node_count below) (place_beside place x beside) beside
     beside_next =
         let trees : action + suc (tree_count beside) ≤ 1025 = next.room in
         let on : action + 1 + tree_count beside ≡ action + suc (tree_count beside) = omega arith in
@@ -170,13 +198,13 @@ module _ (game : GameFile) (lowest : AreFractions (tables_of game)) (whole : IsW
           two = next.two;
         }
 
-    may_come : MayCome game (at_action parent action)
+    may_come : MayCome game (around place)
     may_come set e =
         let known = next.set set e in
         let last : action + suc (tree_count beside) ≡ length (set_at game.sets.chance (set - 1)).actions + 1 = known.2 in
         (known.0, known.1, next.from_one, omega (arith, last))
 
-    numbers_here : numbers_below tables (at_action parent action) x ≡ numbers_on_path tables here
+    numbers_here : numbers_below tables (around place) x ≡ numbers_on_path tables here
     numbers_here = λ i. record {
       reach = sym (next.reach_is action) i;
       one = sum_of (sym (next.one action) i) (payoffs_of tables x.outcome).one;
@@ -184,7 +212,7 @@ module _ (game : GameFile) (lowest : AreFractions (tables_of game)) (whole : IsW
     }
 
     module _ (outer : List NodeOnPath) (walk : PathWalk) (same : walk.game.now ≡ game)
-        (on : GoesOn n (at_action parent action) outer walk) where
+        (on : GoesOn n (around place) outer walk) where
       numbers_are : numbers_at_next walk x ≡ numbers_on_path tables here
       numbers_are = (λ i. numbers_below (tables_of (same i)) (on.innermost_is i) x) ∙ numbers_here
 
@@ -209,7 +237,7 @@ module _ (game : GameFile) (lowest : AreFractions (tables_of game)) (whole : IsW
           subst (λ o. RefusesBy o r) (sym on.passed.rest) (refuses_here game.tree (node_fault tables) n v is_next (next_fault walk (n + 1) x) r fault_is refuses)
 
       goes_below : (new : PathWalk) → HasEntered walk (n + 1) x new
-          → GoesOn (n + 1) child (at_action parent action ∷ outer) new
+          → GoesOn (n + 1) (child place x) (around place ∷ outer) new
       goes_below new entered = record {
         passed = record {
           rest = on.passed.rest ∙ found_later game.tree (node_fault tables) n v is_next (fault_is ∙ entered.passes);
@@ -223,36 +251,38 @@ module _ (game : GameFile) (lowest : AreFractions (tables_of game)) (whole : IsW
       }
 
     may_enter_first : (outer : List NodeOnPath) (visitor : PathVisitor)
-        → Stands n (at_action parent action) outer visitor → MayEnter visitor (n + 1) x
+        → Stands n (around place) outer visitor → MayEnter visitor (n + 1) x
     may_enter_first outer visitor s = may_step (RefusesBy found) visitor.refused s.stands (may_come_next outer visitor.walk s.game_is)
 
-    first_entered : (outer : List NodeOnPath) (old new : PathVisitor) → Stands n (at_action parent action) outer old
-        → Enters old (n + 1) x new → Stands (n + 1) child (at_action parent action ∷ outer) new
+    first_entered : (outer : List NodeOnPath) (old new : PathVisitor) → Stands n (around place) outer old
+        → Enters old (n + 1) x new → Stands (n + 1) (child place x) (around place ∷ outer) new
     first_entered outer old new s enters = record {
       game_is = enters.0 ∙ s.game_is;
-      stands = stepped (RefusesBy found) old.refused new.refused s.stands enters.1 (λ r on. refused_here outer old.walk s.game_is on r) (λ on. goes_below outer old.walk s.game_is on new.walk);
+      stands = stepped (RefusesBy found) old.refused new.refused s.stands enters.1
+          (λ r on. refused_here outer old.walk s.game_is on r) (λ on. goes_below outer old.walk s.game_is on new.walk);
     }
 
     -- back from below the first node
     goes_back : (m : ℕ) (inner : NodeOnPath) (outer : List NodeOnPath) (old new : PathWalk)
-        → GoesOn m inner (at_action parent action ∷ outer) old → HasLeft old new
-        → GoesOn m (at_action parent (action + 1)) outer new
+        → GoesOn m inner (around place ∷ outer) old → HasLeft old new
+        → GoesOn m (around (place_beside place x beside)) outer new
     goes_back m inner outer old new on left =
         let back = subst (λ around. GoesBackTo around new.innermost new.outer) on.outer_is left.back in
         record { passed = subst (HasPassed m) (sym left.expected) on.passed; innermost_is = back.0; outer_is = back.1 }
 
     may_leave_first : (m : ℕ) (inner : NodeOnPath) (outer : List NodeOnPath) (visitor : PathVisitor)
-        → Stands m inner (at_action parent action ∷ outer) visitor → MayLeave visitor (n + 1)
+        → Stands m inner (around place ∷ outer) visitor → MayLeave visitor (n + 1)
     may_leave_first m inner outer visitor s =
         let room : action + suc (tree_count beside) ≤ 1025 = next.room in
         may_step (RefusesBy found) visitor.refused s.stands (λ on. subst HasNodeAround (sym on.outer_is) (omega (arith, room)))
 
     first_left : (m : ℕ) (inner : NodeOnPath) (outer : List NodeOnPath) (old new : PathVisitor)
-        → Stands m inner (at_action parent action ∷ outer) old → Leaves old (n + 1) new
-        → Stands m (at_action parent (action + 1)) outer new
+        → Stands m inner (around place ∷ outer) old → Leaves old (n + 1) new
+        → Stands m (around (place_beside place x beside)) outer new
     first_left m inner outer old new s leaves = record {
       game_is = leaves.0 ∙ s.game_is;
-      stands = stepped (RefusesBy found) old.refused new.refused s.stands leaves.1 (λ r on none. absurd none) (λ on. goes_back m inner outer old.walk new.walk on);
+      stands = stepped (RefusesBy found) old.refused new.refused s.stands leaves.1 (λ r on none. absurd none)
+          (λ on. goes_back m inner outer old.walk new.walk on);
     }
 
   -- how a visitor ends
@@ -262,40 +292,20 @@ module _ (game : GameFile) (lowest : AreFractions (tables_of game)) (whole : IsW
   abbrev Runs : List Event → PathVisitor → Type 0
   Runs = RunsTo MayEnter Enters MayLeave Leaves Ends
 
-  -- the walk through trees that come next leads behind them, with the node around at the action after their last
-  walks : (trees : Forest) (n : ℕ) (above : ℕ → List Move) (action : ℕ) (later : List Visit) (parent : NodeOnPath)
-      (outer : List NodeOnPath) → AreNext n above action trees later parent → (rest : List Event)
-      → ((w : PathVisitor) → Stands (n + node_count trees) (at_action parent (action + tree_count trees)) outer w → Runs rest w)
-      → (v : PathVisitor) → Stands n (at_action parent action) outer v → Runs (events_from (n + 1) trees ++ rest) v
-  walks bare n above action later parent outer next rest then v s =
-      let nodes : n ≡ n + 0 = omega arith in
-      let actions : action ≡ action + 0 = omega arith in
-      then v (subst (λ m. Stands m (at_action parent (action + 0)) outer v) nodes (subst (λ a. Stands n (at_action parent a) outer v) actions s))
-  walks (grown x below beside) n above action later parent outer next rest then v s =
-      let m : ℕ = n + 1 + node_count below in
-      let number : m + 1 ≡ n + 1 + 1 + node_count below = omega arith in
-      let nodes : m + node_count beside ≡ n + node_count (grown x below beside) = omega (arith, length-append (prefix below) (prefix beside)) in
-      let actions : action + 1 + tree_count beside ≡ action + suc (tree_count beside) = omega arith in
-      let last : (w : PathVisitor) → Stands (m + node_count beside) (at_action parent (action + 1 + tree_count beside)) outer w → Runs rest w =
-      λ w stands. then w (subst (λ k. Stands k (at_action parent (action + suc (tree_count beside))) outer w) nodes (subst (λ a. Stands (m + node_count beside) (at_action parent a) outer w) actions stands)) in
-      let beyond : List Event = events_from (n + 1 + 1 + node_count below) beside ++ rest in
-      let child : NodeOnPath = entered_node x (numbers_on_path tables (record { path = above action; node = x })) in
-      let left : (w : PathVisitor) → Stands m (at_action parent (action + 1)) outer w → Runs beyond w =
-      λ w stands. subst (λ k. Runs (events_from k beside ++ rest) w) number
-      (walks beside m above (action + 1) later parent outer (beside_next n above action x below beside later parent next) rest last w stands) in
-      let back : (w : PathVisitor) → Stands m (at_action child (1 + tree_count below)) (at_action parent action ∷ outer) w → Runs (Leave (n + 1) ∷ beyond) w =
-      λ w stands. runs_leave MayEnter Enters MayLeave Leaves Ends (n + 1) beyond w
-      (may_leave_first n above action x below beside later parent next m (at_action child (1 + tree_count below)) outer w stands)
-      (λ u leaves. left u (first_left n above action x below beside later parent next m (at_action child (1 + tree_count below)) outer w u stands leaves)) in
-      let into : (w : PathVisitor) → Enters v (n + 1) x w → Runs (events_from (n + 1 + 1) below ++ (Leave (n + 1) ∷ beyond)) w =
-      λ w enters. walks below (n + 1) (paths_below x (above action)) 1 (visits_from above (action + 1) beside ++ later) child (at_action parent action ∷ outer)
-      (below_next n above action x below beside later parent next) (Leave (n + 1) ∷ beyond) back w (first_entered n above action x below beside later parent next outer v w s enters) in
-      subst (λ steps. Runs steps v)
-      (ap (λ steps. Enter (n + 1) x ∷ steps) (sym (append_assoc (events_from (n + 1 + 1) below) (Leave (n + 1) ∷ events_from (n + 1 + 1 + node_count below) beside) rest)))
-      (runs_enter MayEnter Enters MayLeave Leaves Ends (n + 1) x (events_from (n + 1 + 1) below ++ (Leave (n + 1) ∷ beyond)) v
-      (may_enter_first n above action x below beside later parent next outer v s) into)
+  keeps : KeepsPlaces MayEnter Enters MayLeave Leaves AreNext around Stands place_below place_beside
+  keeps = record {
+    below_next = below_next;
+    beside_next = beside_next;
+    may_enter_first = may_enter_first;
+    first_entered = first_entered;
+    may_leave_first = may_leave_first;
+    first_left = first_left;
+  }
 
-  whole_next : AreNext 0 (λ _. []) 1 game.tree [] empty_path
+  abbrev first_place : Place
+  first_place = record { above = λ _. []; action = 1; later = []; parent = empty_path }
+
+  whole_next : AreNext 0 first_place game.tree
   whole_next = record {
     visits_are = sym (append-nil all);
     children = whole.tree.children;
@@ -336,10 +346,9 @@ module _ (game : GameFile) (lowest : AreFractions (tables_of game)) (whole : IsW
   -- the walk through the whole tree
   pub whole_walk : (visitor : PathVisitor) → IsBefore game visitor → Runs (events_from 1 game.tree) visitor
   whole_walk visitor before =
-      subst (λ steps. Runs steps visitor) (append-nil (events_from 1 game.tree))
-      (walks game.tree 0 (λ _. []) 1 [] empty_path [] whole_next []
-      (λ w s. runs_none MayEnter Enters MayLeave Leaves Ends w (ended (0 + node_count game.tree) (at_action empty_path (1 + tree_count game.tree)) [] w.walk w.refused (omega arith) s.stands))
-      visitor (stands_first visitor before))
+      walked MayEnter Enters MayLeave Leaves Ends keeps game.tree first_place whole_next
+      (λ inner w s. ended (0 + node_count game.tree) inner [] w.walk w.refused (omega arith) s.stands)
+      visitor (stands_first visitor before)
 
   -- a refusal is by the first fault
   pub ends_refused : (visitor : PathVisitor) (r : Refused) → Ends visitor → visitor.refused ≡ Some r → RefusesBy found r

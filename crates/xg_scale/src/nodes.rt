@@ -125,7 +125,7 @@ impl<'a> PathWalk<'a> {
         let Some(around) = self.outer.pop() else {
             unreachable!()
         };
-        self.innermost = after_child(&around);
+        self.innermost = after_child(around);
     }
 }
 

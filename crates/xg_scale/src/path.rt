@@ -38,9 +38,9 @@ pub(crate) fn empty_path() -> NodeOnPath
 }
 
 /// The node at its next action.
-pub(crate) fn after_child(node: &NodeOnPath) -> NodeOnPath
-    requires { node.now.action + 1 < 2 ^ 32 }
-    ensures { result ≡ at_action node.now (node.now.action + 1) }
+pub(crate) fn after_child(node: NodeOnPath) -> NodeOnPath
+    requires { node.action + 1 < 2 ^ 32 }
+    ensures { result ≡ at_action node (node.action + 1) }
 {
     NodeOnPath {
         chance_set: node.chance_set,

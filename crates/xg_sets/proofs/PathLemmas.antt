@@ -1,12 +1,12 @@
 -- A walk through the trees at a node's actions, below the movers around it, finds the first break of recall, or notes all
 -- nodes.
-use Rattle.std.proofs.Common.{◌≡◌, ℕ, suc, ◌+◌, ◌-◌, ◌<◌, ◌≤◌, true, false, cond, List, [], ◌∷◌, ◌++◌, length-append, drop, refl, ap, sym, subst, ◌∙◌, arith, append-nil, append_assoc, Some, None}
+use Rattle.std.proofs.Common.{◌≡◌, ℕ, ◌+◌, ◌-◌, ◌<◌, ◌≤◌, true, false, cond, List, [], ◌∷◌, ◌++◌, drop, refl, ap, sym, subst, ◌∙◌, arith, append-nil, Some, None}
 use Rattle.std.specs.Prelude.{Option, sum}
 use Rattle.def_tree.specs.declared.Kind.{Kind}
 use Rattle.def_tree.specs.declared.Kind.TheVariants.{Chance, One, Two, Leaf}
 use Rattle.def_tree.specs.declared.Node.{Node}
-use Rattle.def_tree.specs.Events.{Event, Enter, Leave, Leads, events_from}
-use Rattle.def_tree.specs.Tree.{Forest, bare, grown, is_leaf_kind, node_count, prefix, tree_count}
+use Rattle.def_tree.specs.Events.{Event, Leads, events_from}
+use Rattle.def_tree.specs.Tree.{Forest, grown, is_leaf_kind, node_count}
 use Rattle.def_tree.specs.Rules.{IsGameTree, is_same_kind}
 use Rattle.def_game_paths.specs.Coming.{no_visit, visit_after}
 use Rattle.def_game_paths.specs.Paths.{Move, Visit, own_choices, visits, visits_from}
@@ -23,8 +23,9 @@ use Rattle.xg_sets.specs.Entered.{AreAt, AreAtFirstChild, AreTablesOf, FindsBrea
 use Rattle.xg_sets.specs.Movers.{GoesBackTo, HasMoverAround, no_mover, sequences_after, step_of}
 use Rattle.xg_sets.specs.Walked.{Enters, HasEntered, HasLeft, IsBefore, Leaves, MayComeNext, MayEnter, MayLeave}
 use Rattle.xg_sets.proofs.ShownLemmas.{no_sets, tables_start}
+use Rattle.xg_tree.proofs.BelowLemmas.{KeepsPlaces, walked}
 use Rattle.xg_tree.proofs.StoppedLemmas.{OrStopped, may_step, stepped}
-use Rattle.xg_tree.proofs.VisitorLemmas.{RunsTo, runs_enter, runs_leave, runs_none}
+use Rattle.xg_tree.proofs.VisitorLemmas.{RunsTo}
 
 one_after : (kind : Kind) (next : Sequences)
     → (sequences_after kind next).one ≡ next.one + cond (is_same_kind One kind) 1 0
@@ -64,12 +65,22 @@ module _ (tree : Forest) (game : IsGameTree tree) where
   abbrev mover_at : Kind → (ℕ → List Move) → ℕ → Mover
   mover_at kind above action = record { next = sequences_on (above action); step = step_of kind }
 
-  -- behind the first n nodes come trees at the actions of a node, from one on, and then later nodes;
-  -- the sequences at its children follow one another
-  record AreNext (n : ℕ) (above : ℕ → List Move) (action : ℕ) (trees : Forest) (later : List Visit) (kind : Kind) : Type 0 where
-    visits_are : drop n all ≡ visits_from above action trees ++ later
-    from_one : 1 ≤ action
-    goes_on : (a : ℕ) → 1 ≤ a → sequences_after kind (sequences_on (above a)) ≡ sequences_on (above (a + 1))
+  -- a place in the tree: the trees at the actions of a node, from one on, and then later nodes
+  record Place : Type 0 where
+    above : ℕ → List Move
+    action : ℕ
+    later : List Visit
+    kind : Kind
+
+  abbrev around : Place → Mover
+  around place = mover_at place.kind place.above place.action
+
+  -- these trees and later nodes come behind the first n nodes; the sequences at the node's children follow one another
+  record AreNext (n : ℕ) (place : Place) (trees : Forest) : Type 0 where
+    visits_are : drop n all ≡ visits_from place.above place.action trees ++ place.later
+    from_one : 1 ≤ place.action
+    goes_on : (a : ℕ) → 1 ≤ a
+        → sequences_after place.kind (sequences_on (place.above a)) ≡ sequences_on (place.above (a + 1))
 
   record GoesOn (n : ℕ) (innermost : Mover) (outer : List Mover) (building : Building) : Type 0 where
     tables : AreTablesOf tree n building.tables.one building.tables.two building.tables.next_nodes
@@ -116,16 +127,29 @@ module _ (tree : Forest) (game : IsGameTree tree) where
       let two : (sequences_after node.kind at).two ≡ path_number Two tree (record { node = node; action = a + 1 } ∷ path) = two_after node.kind at ∙ next_number Two node path a some in
       λ i. record { one = one i; two = two i }
 
-  module _ (n : ℕ) (above : ℕ → List Move) (action : ℕ) (x : Node) (below beside : Forest) (later : List Visit)
-      (kind : Kind) (next : AreNext n above action (grown x below beside) later kind) where
+  abbrev place_below : Place → Node → Forest → Place
+  place_below place x beside = record {
+    above = paths_below x (place.above place.action);
+    action = 1;
+    later = visits_from place.above (place.action + 1) beside ++ place.later;
+    kind = x.kind;
+  }
+
+  abbrev place_beside : Place → Node → Forest → Place
+  place_beside place x beside = record { above = place.above; action = place.action + 1; later = place.later; kind = place.kind }
+
+  module _ (n : ℕ) (place : Place) (x : Node) (below beside : Forest) (next : AreNext n place (grown x below beside)) where
+    abbrev above : ℕ → List Move
+    above = place.above
+
+    abbrev action : ℕ
+    action = place.action
+
     abbrev here : Visit
     here = record { path = above action; node = x }
 
-    abbrev down : ℕ → List Move
-    down = paths_below x (above action)
-
-    stands_here : StandsBefore tree n above action x below beside later
-    stands_here = stands_before tree game n above action x below beside later next.visits_are
+    stands_here : StandsBefore tree n above action x below beside place.later
+    stands_here = stands_before tree game n above action x below beside place.later next.visits_are
 
     there : n < node_count tree
     there = stands_here.there
@@ -149,14 +173,14 @@ module _ (tree : Forest) (game : IsGameTree tree) where
         subst (λ w. sequence_at kind tree w < 1048576) first (omega arith)
 
     -- the trees below the first node, and those beside it
-    below_next : AreNext (n + 1) down 1 below (visits_from above (action + 1) beside ++ later) x.kind
+    below_next : AreNext (n + 1) (place_below place x beside) below
     below_next = record { visits_are = stands_here.under; from_one = omega arith; goes_on = sequences_follow x (above action) }
 
-    beside_next : AreNext (n + 1 + node_count below) above (action + 1) beside later kind
+    beside_next : AreNext (n + 1 + node_count below) (place_beside place x beside) beside
     beside_next = record { visits_are = stands_here.aside; from_one = omega arith; goes_on = next.goes_on }
 
     module _ (outer : List Mover) (building : Building) (same : building.tree.now ≡ tree)
-        (on : GoesOn n (mover_at kind above action) outer building) where
+        (on : GoesOn n (around place) outer building) where
       tables_before : AreTablesOf tree (n + 1 - 1) building.tables.one building.tables.two building.tables.next_nodes
       tables_before =
           let index : n ≡ n + 1 - 1 = omega arith in
@@ -174,7 +198,7 @@ module _ (tree : Forest) (game : IsGameTree tree) where
           subst (λ t. MayComeNext t (n + 1) building) (sym same) known
 
       goes_below : (new : Building) → HasEntered building.tree.now (n + 1) x building new
-          → GoesOn (n + 1) (mover_at x.kind down 1) (mover_at kind above action ∷ outer) new
+          → GoesOn (n + 1) (around (place_below place x beside)) (around place ∷ outer) new
       goes_below new is =
           let entered : HasEntered tree (n + 1) x building new = subst (λ t. HasEntered t (n + 1) x building new) same is in
           let below_here : AreAtFirstChild tree here new.innermost.next = subst (λ w. AreAtFirstChild tree w new.innermost.next) visit_is entered.below in
@@ -187,46 +211,49 @@ module _ (tree : Forest) (game : IsGameTree tree) where
           }
 
     may_enter_first : (outer : List Mover) (visitor : SetVisitor)
-        → Stands n (mover_at kind above action) outer visitor → MayEnter visitor (n + 1) x
+        → Stands n (around place) outer visitor → MayEnter visitor (n + 1) x
     may_enter_first outer visitor s = may_step (FindsBreak tree) visitor.fault s.stands (may_come_next outer visitor.building s.tree_is)
 
-    first_entered : (outer : List Mover) (old new : SetVisitor) → Stands n (mover_at kind above action) outer old
-        → Enters old (n + 1) x new → Stands (n + 1) (mover_at x.kind down 1) (mover_at kind above action ∷ outer) new
+    first_entered : (outer : List Mover) (old new : SetVisitor) → Stands n (around place) outer old
+        → Enters old (n + 1) x new → Stands (n + 1) (around (place_below place x beside)) (around place ∷ outer) new
     first_entered outer old new s enters = record {
       tree_is = enters.0 ∙ s.tree_is;
-      stands = stepped (FindsBreak tree) old.fault new.fault s.stands enters.1 (λ fault on finds. subst (λ t. FindsBreak t fault) s.tree_is finds) (λ on. goes_below outer old.building s.tree_is on new.building);
+      stands = stepped (FindsBreak tree) old.fault new.fault s.stands enters.1
+          (λ fault on finds. subst (λ t. FindsBreak t fault) s.tree_is finds)
+          (λ on. goes_below outer old.building s.tree_is on new.building);
     }
 
     -- back from below the first node
     goes_back : (m : ℕ) (inner : Mover) (outer : List Mover) (old new : Building)
-        → GoesOn m inner (mover_at kind above action ∷ outer) old → HasLeft old new
-        → GoesOn m (mover_at kind above (action + 1)) outer new
+        → GoesOn m inner (around place ∷ outer) old → HasLeft old new
+        → GoesOn m (around (place_beside place x beside)) outer new
     goes_back m inner outer old new on left =
         let back = subst (λ around. GoesBackTo around new.innermost new.outer) on.outer_is left.back in
         let follow = next.goes_on action next.from_one in
         record {
           tables = subst (λ (t : FoundTables). AreTablesOf tree m t.one t.two t.next_nodes) (sym left.tables) on.tables;
-          innermost_is = back.0 ∙ (λ i. record { next = follow i; step = step_of kind });
+          innermost_is = back.0 ∙ (λ i. record { next = follow i; step = step_of place.kind });
           outer_is = back.1;
         }
 
-    room_around : (outer : List Mover) → HasMoverAround (mover_at kind above action ∷ outer)
+    room_around : (outer : List Mover) → HasMoverAround (around place ∷ outer)
     room_around outer =
         let one : path_number One tree (above action) < 1048576 = small One refl in
         let two : path_number Two tree (above action) < 1048576 = small Two refl in
-        (omega (arith, one, step_one kind), omega (arith, two, step_two kind))
+        (omega (arith, one, step_one place.kind), omega (arith, two, step_two place.kind))
 
     may_leave_first : (m : ℕ) (inner : Mover) (outer : List Mover) (visitor : SetVisitor)
-        → Stands m inner (mover_at kind above action ∷ outer) visitor → MayLeave visitor (n + 1)
+        → Stands m inner (around place ∷ outer) visitor → MayLeave visitor (n + 1)
     may_leave_first m inner outer visitor s =
         may_step (FindsBreak tree) visitor.fault s.stands (λ on. subst HasMoverAround (sym on.outer_is) (room_around outer))
 
     first_left : (m : ℕ) (inner : Mover) (outer : List Mover) (old new : SetVisitor)
-        → Stands m inner (mover_at kind above action ∷ outer) old → Leaves old (n + 1) new
-        → Stands m (mover_at kind above (action + 1)) outer new
+        → Stands m inner (around place ∷ outer) old → Leaves old (n + 1) new
+        → Stands m (around (place_beside place x beside)) outer new
     first_left m inner outer old new s leaves = record {
       tree_is = leaves.0 ∙ s.tree_is;
-      stands = stepped (FindsBreak tree) old.fault new.fault s.stands leaves.1 (λ fault on none. absurd none) (λ on. goes_back m inner outer old.building new.building on);
+      stands = stepped (FindsBreak tree) old.fault new.fault s.stands leaves.1 (λ fault on none. absurd none)
+          (λ on. goes_back m inner outer old.building new.building on);
     }
 
   -- how a visitor ends
@@ -237,41 +264,20 @@ module _ (tree : Forest) (game : IsGameTree tree) where
   abbrev Runs : List Event → SetVisitor → Type 0
   Runs = RunsTo MayEnter Enters MayLeave Leaves Ends
 
-  -- the walk through trees that come next leads behind them, with the node around at the action after their last
-  walks : (trees : Forest) (n : ℕ) (above : ℕ → List Move) (action : ℕ) (later : List Visit) (kind : Kind)
-      (outer : List Mover) → AreNext n above action trees later kind → (rest : List Event)
-      → ((w : SetVisitor) → Stands (n + node_count trees) (mover_at kind above (action + tree_count trees)) outer w → Runs rest w)
-      → (v : SetVisitor) → Stands n (mover_at kind above action) outer v → Runs (events_from (n + 1) trees ++ rest) v
-  walks bare n above action later kind outer next rest then v s =
-      let nodes : n ≡ n + 0 = omega arith in
-      let actions : action ≡ action + 0 = omega arith in
-      then v (subst (λ m. Stands m (mover_at kind above (action + 0)) outer v) nodes (subst (λ a. Stands n (mover_at kind above a) outer v) actions s))
-  walks (grown x below beside) n above action later kind outer next rest then v s =
-      let m : ℕ = n + 1 + node_count below in
-      let number : m + 1 ≡ n + 1 + 1 + node_count below = omega arith in
-      let nodes : m + node_count beside ≡ n + node_count (grown x below beside) = omega (arith, length-append (prefix below) (prefix beside)) in
-      let actions : action + 1 + tree_count beside ≡ action + suc (tree_count beside) = omega arith in
-      let last : (w : SetVisitor) → Stands (m + node_count beside) (mover_at kind above (action + 1 + tree_count beside)) outer w → Runs rest w =
-      λ w stands. then w (subst (λ k. Stands k (mover_at kind above (action + suc (tree_count beside))) outer w) nodes (subst (λ a. Stands (m + node_count beside) (mover_at kind above a) outer w) actions stands)) in
-      let beyond : List Event = events_from (n + 1 + 1 + node_count below) beside ++ rest in
-      let inside : ℕ → List Move = λ a. record { node = x; action = a } ∷ above action in
-      let behind_below : Mover = mover_at x.kind inside (1 + tree_count below) in
-      let left : (w : SetVisitor) → Stands m (mover_at kind above (action + 1)) outer w → Runs beyond w =
-      λ w stands. subst (λ k. Runs (events_from k beside ++ rest) w) number
-      (walks beside m above (action + 1) later kind outer (beside_next n above action x below beside later kind next) rest last w stands) in
-      let back : (w : SetVisitor) → Stands m behind_below (mover_at kind above action ∷ outer) w → Runs (Leave (n + 1) ∷ beyond) w =
-      λ w stands. runs_leave MayEnter Enters MayLeave Leaves Ends (n + 1) beyond w
-      (may_leave_first n above action x below beside later kind next m behind_below outer w stands)
-      (λ u leaves. left u (first_left n above action x below beside later kind next m behind_below outer w u stands leaves)) in
-      let into : (w : SetVisitor) → Enters v (n + 1) x w → Runs (events_from (n + 1 + 1) below ++ (Leave (n + 1) ∷ beyond)) w =
-      λ w enters. walks below (n + 1) inside 1 (visits_from above (action + 1) beside ++ later) x.kind (mover_at kind above action ∷ outer)
-      (below_next n above action x below beside later kind next) (Leave (n + 1) ∷ beyond) back w (first_entered n above action x below beside later kind next outer v w s enters) in
-      subst (λ steps. Runs steps v)
-      (ap (λ steps. Enter (n + 1) x ∷ steps) (sym (append_assoc (events_from (n + 1 + 1) below) (Leave (n + 1) ∷ events_from (n + 1 + 1 + node_count below) beside) rest)))
-      (runs_enter MayEnter Enters MayLeave Leaves Ends (n + 1) x (events_from (n + 1 + 1) below ++ (Leave (n + 1) ∷ beyond)) v
-      (may_enter_first n above action x below beside later kind next outer v s) into)
+  keeps : KeepsPlaces MayEnter Enters MayLeave Leaves AreNext around Stands place_below place_beside
+  keeps = record {
+    below_next = below_next;
+    beside_next = beside_next;
+    may_enter_first = may_enter_first;
+    first_entered = first_entered;
+    may_leave_first = may_leave_first;
+    first_left = first_left;
+  }
 
-  whole_next : AreNext 0 (λ _. []) 1 tree [] Chance
+  abbrev first_place : Place
+  first_place = record { above = λ _. []; action = 1; later = []; kind = Chance }
+
+  whole_next : AreNext 0 first_place tree
   whole_next = record { visits_are = sym (append-nil all); from_one = omega arith; goes_on = λ a some. refl }
 
   stands_first : (visitor : SetVisitor) → IsBefore tree visitor → Stands 0 no_mover [] visitor
@@ -298,10 +304,9 @@ module _ (tree : Forest) (game : IsGameTree tree) where
   -- the walk through the whole tree
   pub whole_walk : (visitor : SetVisitor) → IsBefore tree visitor → Runs (events_from 1 tree) visitor
   whole_walk visitor before =
-      subst (λ steps. Runs steps visitor) (append-nil (events_from 1 tree))
-      (walks tree 0 (λ _. []) 1 [] Chance [] whole_next []
-      (λ w s. runs_none MayEnter Enters MayLeave Leaves Ends w (ended (0 + node_count tree) (mover_at Chance (λ _. []) (1 + tree_count tree)) [] w (omega arith) s))
-      visitor (stands_first visitor before))
+      walked MayEnter Enters MayLeave Leaves Ends keeps tree first_place whole_next
+      (λ inner w s. ended (0 + node_count tree) inner [] w (omega arith) s)
+      visitor (stands_first visitor before)
 
   -- a visitor that was led through the whole tree
   module _ (first last : SetVisitor) (before : IsBefore tree first)

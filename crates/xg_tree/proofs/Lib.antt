@@ -6,3 +6,4 @@ pub mod LinkedLemmas
 pub mod JoinedLemmas
 pub mod VisitorLemmas
 pub mod StoppedLemmas
+pub mod BelowLemmas

@@ -1,10 +1,11 @@
 //! What a walk keeps of the nodes above the one that it stands at.
-ghost use Rattle.std.specs.Prelude.{◌≡◌, [], ◌∷◌, IfSome, IsNone, OnOk};
+ghost use Rattle.std.specs.Prelude.{◌≡◌, [], ◌∷◌, IfSome, IsNone, OnErr, OnOk};
 
 use std::alloc::{AllocError, Global};
 use std::marker::Model;
 
-/// One value for each ancestor of a node: the parent's comes first.
+/// One value for each ancestor of a node: the parent's comes first. A walk may keep one more behind them, for what is
+/// around the root.
 #[derive(Drop)]
 pub struct Ancestors<T> {
     // the parent's stands last
@@ -31,7 +32,8 @@ impl<T: Drop> Ancestors<T> {
 
     /// Goes down to a child of a node, which is the parent then.
     pub fn push(&mut self, parent: T) -> Result<(), AllocError>
-        ensures { OnOk result (self.new ≡ parent ∷ self.old) }
+        ensures ok { OnOk result (self.new ≡ parent ∷ self.old) }
+        ensures err { OnErr result (self.new ≡ self.old) }
     {
         self.values.push(parent)?;
         Ok(())
@@ -40,7 +42,7 @@ impl<T: Drop> Ancestors<T> {
     /// Goes up to the parent, and answers it. The root has none.
     pub fn pop(&mut self) -> Option<T>
         ensures some { IfSome result (λ parent. self.old ≡ parent ∷ self.new) }
-        ensures none { IsNone result → self.old ≡ [] }
+        ensures none { IsNone result → (self.old ≡ []) × (self.new ≡ []) }
     {
         self.values.pop()
     }
