@@ -1,6 +1,6 @@
 -- One entry for the leaves of a group that have the same sequence of the other player.
 use Rattle.std.proofs.Common.{◌≡◌, ℕ, zero, suc, ◌+◌, ◌-◌, ◌<◌, ◌≤◌, Bool, true, false, Some, cond, eqb, List, [], ◌∷◌, ◌++◌, length, get_or, slice_index, set, take, drop, map, All, ℤ, pos, ◌+ℤ◌, unsigned_abs, refl, sym, ap, subst, ◌∙◌, arith, ⊎_elim}
-use Rattle.std.proofs.lemmas.List.{drop_all, take_all, take-take, take-set-le, drop-set-add, drop-take, take-append-le, drop-append-le, length-set, length-append, length-drop, length-take-le, get_or-drop, get_or-set_same, get_or-set_other}
+use Rattle.std.proofs.lemmas.List.{drop_all, take_all, take-take, take-set-le, drop-set-add, drop-take, take-append-le, drop-append-le, length-set, length-map, length-append, length-drop, length-take-le, get_or-drop, get_or-set_same, get_or-set_other}
 use Rattle.std.proofs.lemmas.List.Elements.{All-pop, All-push, All-set}
 use Rattle.std.proofs.lemmas.Bool.{cases_lt}
 use Rattle.std.proofs.lemmas.Int.{ints}
@@ -12,6 +12,7 @@ use Rattle.def_sums.proofs.SumLaws.{sum_over-append, nat_sum_over-append, nat_su
 use Rattle.def_tree.specs.Rules.{most_nodes}
 use Rattle.xg_jobs.specs.Entries.{KeepsGroups}
 use Rattle.xg_jobs.specs.Groups.{GroupLeaf, group_at, group_mass, groups_mass, weight_with, weights_of}
+use Rattle.xg_jobs.proofs.GroupSums.{leaf_at, weight_within}
 use Rattle.xg_jobs.specs.Merging.{MayReplace, TakesLeaf, TakesGroup, MergedUpto, AreMerged, CanMerge}
 
 -- an entry with more weight
@@ -60,6 +61,18 @@ leaf_added begin place e x old from low read same =
       within = λ others all here.
           subst (All (λ y. y.other < others)) (sym back) (All-set (λ y. y.other < others) (drop begin old) j (more x e.weight) (omega (arith, same)) all);
     }
+
+-- an entry's weight with a leaf's is within the mass of its group and the leaf
+pub sum_within : {X : Type 0} (leaf : X → GroupLeaf) (items : List X) (begin place : ℕ) (x : X) (w : ℤ) → begin ≤ place
+    → place < length items → x ≡ get_or items place x
+    → unsigned_abs ((leaf x).weight +ℤ w) ≤ group_mass (drop begin (map leaf items)) + unsigned_abs w
+sum_within leaf items begin place x w from low is =
+    let gs : List GroupLeaf = map leaf items in
+    let j : ℕ = place - begin in
+    let at : begin + j ≡ place = omega arith in
+    let inside : j < length (drop begin gs) = omega (arith, length-drop begin gs, length-map items leaf) in
+    let read : get_or (drop begin gs) j (leaf x) ≡ leaf x = get_or-drop begin gs j (leaf x) ∙ ap (λ k. get_or gs k (leaf x)) at ∙ leaf_at leaf items place x low is in
+    omega (arith, unsigned_abs-+ℤ (leaf x).weight w, weight_within (drop begin gs) j (leaf x) inside read)
 
 -- a leaf with an entry of its own
 pub leaf_pushed : (begin : ℕ) (e : GroupLeaf) (old : List GroupLeaf) → begin ≤ length old
@@ -162,7 +175,7 @@ upto_more s starts entries new old_starts old_entries here order inside_old upto
     }
 
 -- a group's mass is at most that of all
-one_group : (starts : List ℕ) (entries : List GroupLeaf) (s : ℕ) → s < length starts - 1
+pub one_group : (starts : List ℕ) (entries : List GroupLeaf) (s : ℕ) → s < length starts - 1
     → group_mass (group_at starts entries s) ≤ groups_mass starts entries (length starts - 1)
 one_group starts entries s low =
     at_most_sum (λ s. group_mass (group_at starts entries s)) 0 (length starts - 1) s (omega arith) (omega arith)

@@ -1,12 +1,16 @@
 -- The leaves that a table's entries are, and what the table keeps of them.
-use Rattle.std.specs.Prelude.{ℕ, ◌+◌, ◌-◌, ◌<◌, ◌≤◌, List, length, map, All, slice_index}
+use Rattle.std.specs.Prelude.{◌≡◌, ℕ, ◌+◌, ◌-◌, ◌<◌, ◌≤◌, List, length, map, All, slice_index}
 use Rattle.def_sums.specs.Limits.{most_mass}
+use Rattle.def_tree.specs.declared.Player.TheVariants.{One}
+use Rattle.def_plan.specs.Form.{SequenceForm, sequence_count}
+use Rattle.def_plan.specs.Payoff.{mass_of}
 use Rattle.xg_jobs.specs.declared.entry.SmallEntry.{SmallEntry}
 use Rattle.xg_jobs.specs.declared.entry.TinyEntry.{TinyEntry}
 use Rattle.xg_jobs.specs.declared.entry.WideEntry.{WideEntry}
 use Rattle.xg_jobs.specs.declared.groups.GroupEntries.{GroupEntries}
 use Rattle.xg_jobs.specs.declared.groups.GroupEntries.TheVariants.{Small, Tiny, Wide}
 use Rattle.xg_jobs.specs.Groups.{GroupLeaf, group_at, groups_mass}
+use Rattle.xg_jobs.specs.Grouping.{pair_weights, weights_in}
 
 abbrev pub tiny_leaf : TinyEntry → GroupLeaf
 tiny_leaf e = record { other = e.other; weight = e.weight }
@@ -31,3 +35,8 @@ pub record KeepsGroups (starts : List ℕ) (entries : List GroupLeaf) (others ma
   pub within : (s : ℕ) → s + 1 < length starts → All (λ e. e.other < others) (group_at starts entries s)
   pub total : groups_mass starts entries (length starts - 1) ≤ mass
   pub light : mass ≤ most_mass
+
+-- the leaves of each of player one's sequences, and nothing but them
+pub record AreGroupsOf (form : SequenceForm) (starts : List ℕ) (entries : List GroupLeaf) : Type 0 where
+  pub keeps : KeepsGroups starts entries (sequence_count form.sets_two) (mass_of form.leaves)
+  pub weights : weights_in starts entries (sequence_count form.sets_two) ≡ pair_weights form One

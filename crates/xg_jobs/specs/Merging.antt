@@ -20,6 +20,10 @@ pub record CanMerge (starts : List ℕ) (entries : List GroupLeaf) (others : ℕ
   pub light : (s : ℕ) → s + 1 < length starts → group_mass (group_at starts entries s) < 2 ^ 63
   pub limit : length entries ≤ most_nodes
 
+-- there is room for a leaf with any sequence and a weight of at most this size
+abbrev pub HasRoomUpTo : (GroupLeaf → Type 0) → ℕ → Type 0
+HasRoomUpTo HasRoom mass = (e : GroupLeaf) → unsigned_abs e.weight ≤ mass → HasRoom e
+
 -- a leaf more in the group from a place on
 pub record TakesLeaf (begin : ℕ) (e : GroupLeaf) (old new : List GroupLeaf) : Type 0 where
   pub front : take begin new ≡ take begin old

@@ -1,17 +1,19 @@
 //! The groups of player one's sequences, with the smallest entries that have room.
-ghost use Rattle.std.specs.Prelude.{◌≡◌, ◌*◌, ◌^◌, ◌<◌, ◌≤◌, max, All, IfOk, IsTrue, length};
+ghost use Rattle.std.specs.Prelude.{◌≡◌, ◌*◌, ◌^◌, ◌<◌, ◌≤◌, max, All, IfOk, IsTrue, length, map};
 ghost use Rattle.def_sums.specs.Limits.{most_root};
 ghost use Rattle.def_tree.specs.declared.Player.TheVariants.{One};
 ghost use Rattle.def_plan.specs.Form.{sequence_count};
 ghost use Rattle.def_plan.specs.Payoff.{mass_of};
+ghost use Rattle.xg_jobs.specs.Entries.{AreGroupsOf};
 ghost use Rattle.xg_jobs.specs.Grouping.{pair_weights};
 ghost use Rattle.xg_jobs.specs.Groups.{greatest_of};
+ghost use Rattle.xg_jobs.specs.Merging.{HasRoomUpTo};
 ghost use Rattle.xg_jobs.specs.Rows.{AreNumbersOf, ArePlainSums};
 
-use crate::entry::{SmallEntry, TinyEntry, WideEntry};
+use crate::entry::{GroupEntry, SmallEntry, TinyEntry, WideEntry};
 use crate::grouping::{entries_of, starts_of};
 use crate::input::RowInput;
-use crate::merging::merged;
+use crate::merging::{Grouped, merged};
 use crate::packing::{are_small, are_tiny, small_entries, tiny_entries};
 use crate::rows::{Rows, SmallRows};
 use crate::sizes::{greatest_number, total_mass};
@@ -44,10 +46,21 @@ pub(crate) enum GroupEntries {
 
 impl GroupEntries {
     ghost use Rattle.std.specs.Prelude.{map};
-    ghost use Rattle.xg_jobs.specs.Entries.{leaves_of_group, wide_leaf};
+    ghost use Rattle.xg_jobs.specs.Entries.{leaves_of_group, small_leaf, wide_leaf};
 
     // The smallest entries that have room for all leaves.
-    fn packed(alloc: Global, entries: Vec<WideEntry>) -> Result<GroupEntries, AllocError>
+    fn from_small(alloc: Global, entries: Vec<SmallEntry>) -> Result<GroupEntries, AllocError>
+        ensures { IfOk result (λ packed. leaves_of_group packed ≡ map small_leaf entries.items) }
+    {
+        if are_tiny(&entries) {
+            Ok(GroupEntries::Tiny(tiny_entries(alloc, &entries)?))
+        } else {
+            Ok(GroupEntries::Small(entries))
+        }
+    }
+
+    // And those for leaves whose weights may need all bits.
+    fn from_wide(alloc: Global, entries: Vec<WideEntry>) -> Result<GroupEntries, AllocError>
         ensures { IfOk result (λ packed. leaves_of_group packed ≡ map wide_leaf entries.items) }
     {
         if are_tiny(&entries) {
@@ -80,17 +93,40 @@ impl LeafGroups {
         ensures weights { IfOk result (λ groups. groups.weights ≡ pair_weights form.now One) }
         ensures mass { IfOk result (λ groups. groups.mass ≡ mass_of form.now.leaves) }
     {
-        let starts = starts_of(alloc, form, Player::One)?;
         let mass = total_mass(form);
-        form.facts();
-        let others = form.sequence_count(Player::Two);
-        let entries = entries_of(alloc, form, Player::One, &starts)?;
-        let groups = merged(alloc, &starts, &entries, others)?;
-        let packed = GroupEntries::packed(alloc, groups.entries)?;
+        if mass < 1 << 31 {
+            LeafGroups::light(alloc, form, mass)
+        } else {
+            LeafGroups::heavy(alloc, form, mass)
+        }
+    }
+
+    // Where weights add up to less than 31 bits, whichever are added, small entries have room for them.
+    fn light(alloc: Global, form: &SeqForm, mass: u64) -> Result<LeafGroups, AllocError>
+        requires mass { mass ≡ mass_of form.now.leaves }
+        requires light { mass < 2 ^ 31 }
+        ensures weights { IfOk result (λ groups. groups.weights ≡ pair_weights form.now One) }
+        ensures mass { IfOk result (λ groups. groups.mass ≡ mass) }
+    {
+        let groups = grouped::<SmallEntry>(alloc, form)?;
         Ok(LeafGroups {
             starts: groups.starts,
-            entries: packed,
-            others,
+            entries: GroupEntries::from_small(alloc, groups.entries)?,
+            others: form.sequence_count(Player::Two),
+            mass,
+        })
+    }
+
+    fn heavy(alloc: Global, form: &SeqForm, mass: u64) -> Result<LeafGroups, AllocError>
+        requires mass { mass ≡ mass_of form.now.leaves }
+        ensures weights { IfOk result (λ groups. groups.weights ≡ pair_weights form.now One) }
+        ensures mass { IfOk result (λ groups. groups.mass ≡ mass) }
+    {
+        let groups = grouped::<WideEntry>(alloc, form)?;
+        Ok(LeafGroups {
+            starts: groups.starts,
+            entries: GroupEntries::from_wide(alloc, groups.entries)?,
+            others: form.sequence_count(Player::Two),
             mass,
         })
     }
@@ -142,6 +178,17 @@ impl LeafGroups {
         }
         true
     }
+}
+
+// The leaves of each of player one's sequences, with one entry for those that have the same one of player two.
+fn grouped<E: GroupEntry>(alloc: Global, form: &SeqForm) -> Result<Grouped<E>, AllocError>
+    requires room { HasRoomUpTo E.has_room (mass_of form.now.leaves) }
+    ensures { IfOk result (λ groups. AreGroupsOf form.now groups.starts.items (map E.leaf groups.entries.items)) }
+{
+    form.facts();
+    let starts = starts_of(alloc, form, Player::One)?;
+    let entries = entries_of(alloc, form, Player::One, &starts)?;
+    merged(alloc, &starts, &entries, form.sequence_count(Player::Two))
 }
 
 // Whether each sum is within 64 bits, with its sign. Light weights tell it whatever the numbers are.

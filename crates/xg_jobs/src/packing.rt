@@ -8,8 +8,8 @@ use crate::entry::{GroupEntry, SmallEntry, TinyEntry, WideEntry};
 use std::alloc::{AllocError, Global};
 
 /// Whether each leaf has room in a tiny entry.
-pub(crate) fn are_tiny(entries: &[WideEntry]) -> bool
-    ensures { IsTrue result → All (λ e. IsTiny (wide_leaf e)) entries.now }
+pub(crate) fn are_tiny<E: GroupEntry>(entries: &[E]) -> bool
+    ensures { IsTrue result → All (λ e. IsTiny (E.leaf e)) entries.now }
 {
     for e in entries {
         if !is_tiny(e.other(), e.weight()) {
@@ -26,12 +26,12 @@ fn is_tiny(other: u32, weight: i64) -> bool
 }
 
 /// The same entries as tiny ones.
-pub(crate) fn tiny_entries(
+pub(crate) fn tiny_entries<E: GroupEntry>(
     alloc: Global,
-    entries: &[WideEntry],
+    entries: &[E],
 ) -> Result<Vec<TinyEntry>, AllocError>
-    requires { All (λ e. IsTiny (wide_leaf e)) entries.now }
-    ensures { IfOk result (λ tiny. map tiny_leaf tiny.items ≡ map wide_leaf entries.now) }
+    requires { All (λ e. IsTiny (E.leaf e)) entries.now }
+    ensures { IfOk result (λ tiny. map tiny_leaf tiny.items ≡ map E.leaf entries.now) }
 {
     let mut tiny = Vec::with_capacity(alloc, entries.len())?;
     for e in entries {

@@ -1,79 +1,83 @@
-use Rattle.std.proofs.Common.{◌≡◌, ℕ, ◌+◌, ◌-◌, ◌<◌, ◌≤◌, List, length, get_or, set, drop, map, slice_index, ◌+ℤ◌, unsigned_abs, FitsSigned, to_z, of_z, sym, ap, subst, ◌∙◌, arith, rules, ◌++◌, [], ◌∷◌}
+use Rattle.std.proofs.Common.{◌≡◌, ℕ, ◌<◌, List, length, set, map, slice_index, ℤ, ◌+ℤ◌, unsigned_abs, FitsSigned, to_z, of_z, sym, ap, subst, ◌∙◌, arith, rules, ◌++◌, [], ◌∷◌}
 use Rattle.std.specs.Int.{w64}
 use Rattle.std.proofs.lemmas.Int.{to_z-of_z, fits_signed_from_abs}
-use Rattle.std.proofs.lemmas.List.{length-map, length-drop, get_or-drop, get_or_default, map-set, map-append}
-use Rattle.def_sums.proofs.RingLaws.{unsigned_abs-+ℤ}
-use Rattle.xg_jobs.specs.Entries.{wide_leaf}
+use Rattle.std.proofs.lemmas.List.{length-map, get_or_default, map-set, map-append}
 use Rattle.xg_jobs.specs.Groups.{GroupLeaf}
 use Rattle.xg_jobs.specs.Merging.{TakesLeaf}
-use Rattle.xg_jobs.proofs.GroupSums.{leaf_at, weight_within}
-use Rattle.xg_jobs.proofs.OneEntry.{leaf_added, leaf_pushed, more}
+use Rattle.xg_jobs.proofs.GroupSums.{leaf_at}
+use Rattle.xg_jobs.proofs.OneEntry.{leaf_added, leaf_pushed, more as with_more, sum_within}
 use Rattle.xg_jobs.proofs.merging.merge_leaf.Goals as goal
 
-pub overflow_add-index_mut : goal.overflow_add-index_mut
-overflow_add-index_mut c =
+pub overflow_add-weight : goal.overflow_add-weight
+overflow_add-weight g c =
     let items = c.args.entries.now.items in
-    let gs : List GroupLeaf = map wide_leaf items in
-    let begin : ℕ = c.args.begin in
-    let place : ℕ = slice_index c.args.places.now c.args.e.other in
-    let v = c.index_mut.result.now in
-    let x : GroupLeaf = wide_leaf v in
-    let size : length gs ≡ length items = length-map items wide_leaf in
+    let place : ℕ = slice_index c.args.places.now c.other-other.result in
     let low : place < length items = omega arith in
-    let from : begin ≤ place = omega arith in
-    let read : get_or gs place x ≡ x = leaf_at wide_leaf items place v low c.index_mut.ensures.value in
-    let j : ℕ = place - begin in
-    let at : begin + j ≡ place = omega arith in
-    let inside : j < length (drop begin gs) = omega (arith, length-drop begin gs, size) in
-    let found : get_or (drop begin gs) j x ≡ x = get_or-drop begin gs j x ∙ ap (λ k. get_or gs k x) at ∙ read in
-    let light = weight_within (drop begin gs) j x inside found in
-    let fits_v : FitsSigned w64 v.weight = search rules in
-    let v_is : to_z w64 (of_z w64 v.weight) ≡ v.weight = to_z-of_z w64 v.weight fits_v in
-    let fits_e : FitsSigned w64 c.args.e.weight = search rules in
-    let e_is : to_z w64 (of_z w64 c.args.e.weight) ≡ c.args.e.weight = to_z-of_z w64 c.args.e.weight fits_e in
-    let size_of_sum = unsigned_abs-+ℤ (to_z w64 (of_z w64 v.weight)) (to_z w64 (of_z w64 c.args.e.weight)) in
-    fits_signed_from_abs w64 (to_z w64 (of_z w64 v.weight) +ℤ to_z w64 (of_z w64 c.args.e.weight))
-    (omega (arith, size_of_sum, ap unsigned_abs v_is, ap unsigned_abs e_is, light, c.requires.light))
+    let x = c.index-then-other.result.now in
+    let leaf = g.E.GroupEntry.leaf in
+    let more : ℤ = (leaf c.args.e).weight in
+    let fits_x : FitsSigned w64 c.weight.result = search rules in
+    let x_is : to_z w64 (of_z w64 c.weight.result) ≡ (leaf x).weight = to_z-of_z w64 c.weight.result fits_x ∙ c.weight.ensures in
+    let fits_e : FitsSigned w64 c.weight-then-other.result = search rules in
+    let e_is : to_z w64 (of_z w64 c.weight-then-other.result) ≡ more = to_z-of_z w64 c.weight-then-other.result fits_e ∙ c.weight-then-other.ensures in
+    let sum = to_z w64 (of_z w64 c.weight.result) +ℤ to_z w64 (of_z w64 c.weight-then-other.result) in
+    let sum_is : sum ≡ (leaf x).weight +ℤ more = λ i. x_is i +ℤ e_is i in
+    let within = sum_within leaf items c.args.begin place x more (omega arith) low c.index-then-other.ensures in
+    fits_signed_from_abs w64 sum (omega (arith, ap unsigned_abs sum_is, within, c.requires.light))
 
-pub returns-then-index-e : goal.returns-then-index-e
-returns-then-index-e c =
+pub new-requires : goal.new-requires
+new-requires g c =
     let items = c.args.entries.now.items in
-    let gs : List GroupLeaf = map wide_leaf items in
-    let begin : ℕ = c.args.begin in
-    let place : ℕ = slice_index c.args.places.now c.args.e.other in
-    let v = c.index_mut.result.now in
-    let x : GroupLeaf = wide_leaf v in
-    let size : length gs ≡ length items = length-map items wide_leaf in
+    let place : ℕ = slice_index c.args.places.now c.other-other.result in
     let low : place < length items = omega arith in
-    let from : begin ≤ place = omega arith in
-    let read : get_or gs place x ≡ x = leaf_at wide_leaf items place v low c.index_mut.ensures.value in
-    let j : ℕ = place - begin in
-    let at : begin + j ≡ place = omega arith in
-    let inside : j < length (drop begin gs) = omega (arith, length-drop begin gs, size) in
-    let found : get_or (drop begin gs) j x ≡ x = get_or-drop begin gs j x ∙ ap (λ k. get_or gs k x) at ∙ read in
-    let light = weight_within (drop begin gs) j x inside found in
-    let fits_v : FitsSigned w64 v.weight = search rules in
-    let v_is : to_z w64 (of_z w64 v.weight) ≡ v.weight = to_z-of_z w64 v.weight fits_v in
-    let fits_e : FitsSigned w64 c.args.e.weight = search rules in
-    let e_is : to_z w64 (of_z w64 c.args.e.weight) ≡ c.args.e.weight = to_z-of_z w64 c.args.e.weight fits_e in
-    let sum = to_z w64 (of_z w64 v.weight) +ℤ to_z w64 (of_z w64 c.args.e.weight) in
-    let size_of_sum = unsigned_abs-+ℤ (to_z w64 (of_z w64 v.weight)) (to_z w64 (of_z w64 c.args.e.weight)) in
-    let fits : FitsSigned w64 sum = fits_signed_from_abs w64 sum (omega (arith, size_of_sum, ap unsigned_abs v_is, ap unsigned_abs e_is, light, c.requires.light)) in
-    let sum_is : to_z w64 (of_z w64 sum) ≡ v.weight +ℤ c.args.e.weight = to_z-of_z w64 sum fits ∙ (λ i. v_is i +ℤ e_is i) in
-    let u = c.index.result.now in
-    let both : u ≡ v = c.index.ensures ∙ get_or_default items place u v low ∙ sym c.index_mut.ensures.value in
-    let own : u.other ≡ c.args.e.other = omega arith in
-    let same : v.other ≡ c.args.e.other = sym (ap (λ w. w.other) both) ∙ own in
-    let set_is : map wide_leaf (set items place (record { other = v.other; weight = to_z w64 (of_z w64 sum) })) ≡ set gs place (more x c.args.e.weight) =
-    map-set wide_leaf items place (record { other = v.other; weight = to_z w64 (of_z w64 sum) })
-    ∙ (λ i. set gs place (record { other = v.other; weight = sum_is i })) in
-    subst (TakesLeaf begin (wide_leaf c.args.e) gs) (sym set_is) (leaf_added begin place (wide_leaf c.args.e) x gs from (omega (arith, size)) read same)
+    let x = c.index-then-other.result.now in
+    let leaf = g.E.GroupEntry.leaf in
+    let more : ℤ = (leaf c.args.e).weight in
+    let fits_x : FitsSigned w64 c.weight.result = search rules in
+    let x_is : to_z w64 (of_z w64 c.weight.result) ≡ (leaf x).weight = to_z-of_z w64 c.weight.result fits_x ∙ c.weight.ensures in
+    let fits_e : FitsSigned w64 c.weight-then-other.result = search rules in
+    let e_is : to_z w64 (of_z w64 c.weight-then-other.result) ≡ more = to_z-of_z w64 c.weight-then-other.result fits_e ∙ c.weight-then-other.ensures in
+    let sum = to_z w64 (of_z w64 c.weight.result) +ℤ to_z w64 (of_z w64 c.weight-then-other.result) in
+    let sum_is : sum ≡ (leaf x).weight +ℤ more = λ i. x_is i +ℤ e_is i in
+    let within = sum_within leaf items c.args.begin place x more (omega arith) low c.index-then-other.ensures in
+    let fits : FitsSigned w64 sum = fits_signed_from_abs w64 sum (omega (arith, ap unsigned_abs sum_is, within, c.requires.light)) in
+    let kept : to_z w64 (of_z w64 sum) ≡ sum = to_z-of_z w64 sum fits in
+    c.requires.room (record { other = c.other-other.result; weight = to_z w64 (of_z w64 sum) }) (omega (arith, ap unsigned_abs (kept ∙ sum_is), within))
+
+pub returns-then-other : goal.returns-then-other
+returns-then-other g c =
+    let items = c.args.entries.now.items in
+    let place : ℕ = slice_index c.args.places.now c.other-other.result in
+    let low : place < length items = omega arith in
+    let x = c.index-then-other.result.now in
+    let leaf = g.E.GroupEntry.leaf in
+    let more : ℤ = (leaf c.args.e).weight in
+    let fits_x : FitsSigned w64 c.weight.result = search rules in
+    let x_is : to_z w64 (of_z w64 c.weight.result) ≡ (leaf x).weight = to_z-of_z w64 c.weight.result fits_x ∙ c.weight.ensures in
+    let fits_e : FitsSigned w64 c.weight-then-other.result = search rules in
+    let e_is : to_z w64 (of_z w64 c.weight-then-other.result) ≡ more = to_z-of_z w64 c.weight-then-other.result fits_e ∙ c.weight-then-other.ensures in
+    let sum = to_z w64 (of_z w64 c.weight.result) +ℤ to_z w64 (of_z w64 c.weight-then-other.result) in
+    let sum_is : sum ≡ (leaf x).weight +ℤ more = λ i. x_is i +ℤ e_is i in
+    let within = sum_within leaf items c.args.begin place x more (omega arith) low c.index-then-other.ensures in
+    let fits : FitsSigned w64 sum = fits_signed_from_abs w64 sum (omega (arith, ap unsigned_abs sum_is, within, c.requires.light)) in
+    let kept : to_z w64 (of_z w64 sum) ≡ sum = to_z-of_z w64 sum fits in
+    let gs : List GroupLeaf = map leaf items in
+    let y = c.index.result.now in
+    let both : y ≡ x = c.index.ensures ∙ get_or_default items place y x low ∙ sym c.index-then-other.ensures in
+    let own : (leaf x).other ≡ c.other-other.result = ap (λ z. (leaf z).other) (sym both) ∙ omega arith in
+    let known : ℕ → ℤ → GroupLeaf = λ b w. record { other = b; weight = w } in
+    let leaf_is : leaf c.new.result ≡ with_more (leaf x) more = c.new.ensures ∙ (λ i. known (sym own i) ((kept ∙ sum_is) i)) in
+    let set_is : map leaf (set items place c.new.result) ≡ set gs place (with_more (leaf x) more) = map-set leaf items place c.new.result ∙ (λ i. set gs place (leaf_is i)) in
+    subst (TakesLeaf c.args.begin (leaf c.args.e) gs) (sym set_is)
+    (leaf_added c.args.begin place (leaf c.args.e) (leaf x) gs (omega arith) (omega (arith, length-map items leaf))
+    (leaf_at leaf items place x low c.index-then-other.ensures) (own ∙ c.other-other.ensures))
 
 pub returns : goal.returns
-returns c =
+returns g c =
     let items = c.args.entries.now.items in
-    let gs : List GroupLeaf = map wide_leaf items in
-    let pushed : map wide_leaf c.push.new.self.items ≡ gs ++ wide_leaf c.args.e ∷ [] =
-    ap (map wide_leaf) c.in_ok-push.ensures.items ∙ map-append wide_leaf items (c.args.e ∷ []) in
-    subst (TakesLeaf c.args.begin (wide_leaf c.args.e) gs) (sym pushed)
-    (leaf_pushed c.args.begin (wide_leaf c.args.e) gs (omega (arith, c.requires.begin, length-map items wide_leaf)))
+    let leaf = g.E.GroupEntry.leaf in
+    let gs : List GroupLeaf = map leaf items in
+    let pushed : map leaf c.push.new.self.items ≡ gs ++ leaf c.args.e ∷ [] =
+    ap (map leaf) c.in_ok-push.ensures.items ∙ map-append leaf items (c.args.e ∷ []) in
+    subst (TakesLeaf c.args.begin (leaf c.args.e) gs) (sym pushed)
+    (leaf_pushed c.args.begin (leaf c.args.e) gs (omega (arith, c.requires.begin, length-map items leaf)))

@@ -1,27 +1,24 @@
-use Rattle.std.proofs.Common.{◌≡◌, ℕ, ◌≤◌, All, length, pos, FitsSigned, to_z, of_z, ℤ, ap, subst, ◌∙◌, arith, rules}
+use Rattle.std.proofs.Common.{◌≡◌, ℕ, ◌≤◌, All, length, FitsSigned, to_z, of_z, ℤ, ap, subst, ◌∙◌, arith, rules}
 use Rattle.std.specs.Int.{w64}
 use Rattle.std.proofs.lemmas.Int.{to_z-of_z}
 use Rattle.std.proofs.lemmas.List.{take_all}
 use Rattle.std.proofs.lemmas.List.Elements.{All-more}
-use Rattle.xg_jobs.specs.Entries.{wide_leaf}
 use Rattle.xg_jobs.specs.Groups.{GroupLeaf, IsTiny}
-use Rattle.xg_jobs.specs.declared.entry.WideEntry.{WideEntry}
 use Rattle.xg_jobs.proofs.packing.are_tiny.Goals as goal
 
 pub loop-e-preserved : goal.loop-e-preserved
-loop-e-preserved c =
+loop-e-preserved g c =
     let entries = c.args.entries.now in
     let i : ℕ = c.loop-e.e-index in
-    let P : WideEntry → Type 0 = λ e. IsTiny (wide_leaf e) in
-    let none : WideEntry = record { other = 0; weight = pos 0 } in
+    let item = c.e-item.result in
     let fits_w : FitsSigned w64 c.weight.result = search rules in
     let w_is : to_z w64 (of_z w64 c.weight.result) ≡ c.weight.result = to_z-of_z w64 c.weight.result fits_w in
     let known : ℕ → ℤ → GroupLeaf = λ b w. record { other = b; weight = w } in
     let told_is = ap (λ b. known b (to_z w64 (of_z w64 c.weight.result))) c.other.ensures ∙ ap (known _) (w_is ∙ c.weight.ensures) in
-    All-more P entries i none c.loop-e-test.true c.loop-e.invariant (subst IsTiny told_is (c.is_tiny.ensures c.if-not-is_tiny.false))
+    All-more (λ e. IsTiny (g.E.GroupEntry.leaf e)) entries i item c.loop-e-test.true c.loop-e.invariant
+    (subst (λ e. IsTiny (g.E.GroupEntry.leaf e)) c.e-item.is (subst IsTiny told_is (c.is_tiny.ensures c.if-not-is_tiny.false)))
 
 pub returns : goal.returns
-returns c = λ _.
-    let P : WideEntry → Type 0 = λ e. IsTiny (wide_leaf e) in
+returns g c = λ _.
     let past : length c.args.entries.now ≤ c.loop-e.e-index = omega arith in
-    subst (All P) (take_all c.loop-e.e-index c.args.entries.now past) c.loop-e.invariant
+    subst (All (λ e. IsTiny (g.E.GroupEntry.leaf e))) (take_all c.loop-e.e-index c.args.entries.now past) c.loop-e.invariant

@@ -1,0 +1,26 @@
+use Rattle.std.proofs.Common.{List, map, ap, subst, sym, ◌∙◌, arith}
+use Rattle.std.specs.Int.{w32}
+use Rattle.std.proofs.lemmas.Int.{fits_signed_from_abs}
+use Rattle.def_plan.specs.Form.{sequence_count}
+use Rattle.xg_jobs.specs.Entries.{KeepsGroups, small_leaf}
+use Rattle.xg_jobs.specs.Groups.{GroupLeaf}
+use Rattle.xg_jobs.specs.Grouping.{weights_in}
+use Rattle.xg_jobs.proofs.groups.LeafGroups.light.Goals as goal
+
+pub grouped-requires : goal.grouped-requires
+grouped-requires c = record { room = λ e small. fits_signed_from_abs w32 e.weight (omega (arith, small, c.requires.mass, c.requires.light)) }
+
+pub invariant_of-result : goal.invariant_of-result
+invariant_of-result c =
+    let starts = c.in_ok-groups.groups.starts.items in
+    let entries : List GroupLeaf = map small_leaf c.in_ok-groups.groups.entries.items in
+    let kept = c.in_ok-groups.ensures.keeps in
+    subst (λ es. KeepsGroups starts es c.sequence_count.result c.args.mass) (sym c.in_ok-from_small.ensures)
+    (subst (λ n. KeepsGroups starts entries n c.args.mass) (sym c.sequence_count.ensures.count) (subst (KeepsGroups starts entries (sequence_count c.args.form.now.sets_two)) (sym c.requires.mass) kept))
+
+pub returns-clause-weights : goal.returns-clause-weights
+returns-clause-weights c =
+    let starts = c.in_ok-groups.groups.starts.items in
+    let entries : List GroupLeaf = map small_leaf c.in_ok-groups.groups.entries.items in
+    ap (λ es. weights_in starts es c.sequence_count.result) c.in_ok-from_small.ensures
+    ∙ ap (weights_in starts entries) c.sequence_count.ensures.count ∙ c.in_ok-groups.ensures.weights
