@@ -1,8 +1,17 @@
 //! Lists of actions and of payoffs.
 use std::test::Fail;
-use xg_frac::{one_over, whole};
+use xg_frac::{Frac, one_over, whole};
 use xg_lex::unescape;
 use xg_record::{Action, Actions, Payoffs};
+
+/// Whether this action stands at a place.
+fn has_action(actions: &Actions, place: usize, name: &[u8], chance: Frac) -> bool {
+    if place >= actions.len() {
+        return false;
+    }
+    let action = actions.get(place);
+    action.name.bytes() == name && action.chance == chance
+}
 
 #[test]
 fn actions_keep_their_order(rt: HostRuntime) -> Result<(), Fail> {
@@ -20,10 +29,15 @@ fn actions_keep_their_order(rt: HostRuntime) -> Result<(), Fail> {
     })?;
     assert!(rt;
         actions.len() == 2
-            && actions.get(0).name.bytes() == b"heads".as_slice()
-            && actions.get(1).chance == one_over(3)
+            && has_action(&actions, 0, b"heads", one_over(2))
+            && has_action(&actions, 1, b"tails", one_over(3))
     );
     Ok(())
+}
+
+/// Whether this payoff stands at a place.
+fn has_payoff(payoffs: &Payoffs, place: usize, payoff: Frac) -> bool {
+    place < payoffs.len() && payoffs.get(place) == payoff
 }
 
 #[test]
@@ -31,11 +45,15 @@ fn payoffs_keep_their_order(rt: HostRuntime) -> Result<(), Fail> {
     let mut payoffs = Payoffs::new(rt.alloc());
     payoffs.push(one_over(2))?;
     payoffs.push(one_over(4))?;
-    assert!(rt; payoffs.len() == 2 && payoffs.get(1) == one_over(4));
+    assert!(rt;
+        payoffs.len() == 2
+            && has_payoff(&payoffs, 0, one_over(2))
+            && has_payoff(&payoffs, 1, one_over(4))
+    );
     payoffs.clear();
     assert!(rt; payoffs.len() == 0);
     payoffs.push(one_over(3))?;
-    assert!(rt; payoffs.len() == 1 && payoffs.get(0) == one_over(3));
+    assert!(rt; payoffs.len() == 1 && has_payoff(&payoffs, 0, one_over(3)));
     assert!(rt; whole(0).is_ok());
     Ok(())
 }
