@@ -67,7 +67,18 @@ impl Game {
     pub fn into_tree(self) -> Tree
         ensures { result ≡ self.tree }
     {
-        self.tree
+        let Game {
+            prologue,
+            tree,
+            names,
+            sets,
+            outcomes,
+        } = self;
+        drop(prologue);
+        drop(names);
+        drop(sets);
+        drop(outcomes);
+        tree
     }
 
     /// The tree of the game's nodes.
