@@ -13,7 +13,7 @@ use Rattle.def_file_form.proofs.FirstFaultIsReported.{judged_fault}
 use Rattle.xg_game.specs.Made.{Made}
 use Rattle.xg_game.specs.declared.fault.Refused.{Refused}
 use Rattle.xg_game.specs.declared.fault.Refused.TheVariants.{File, NoMemory}
-use Rattle.xg_read.specs.Gives.{next_at, GivesFor, GivesNext}
+use Rattle.xg_read.specs.Gives.{next_at, GivesNext}
 
 -- the next entry is taken, or has a fault
 next_taken : (contents : Contents) (whole : List ℕ) (at end : ℕ) (r : Record) → entry_at whole at ≡ Ok (r, end)
@@ -102,10 +102,11 @@ pushed (Err (File fault)) old new whole at end r read sound put refused = next_j
 pushed (Err NoMemory) old new whole at end r read sound put refused = tt
 
 -- reading stops with the next entry
-pub stopped : {X : Type 0} (view : X → Contents) (refused : Refused) (next : Contents) (left : ℕ) (contents : Contents)
-    (whole seen : List ℕ) (at end place : ℕ) (all : Result (Contents × ℕ) FileFault)
+pub stopped : (refused : Refused) (next : Contents) (left : ℕ) (contents last : Contents) (whole seen : List ℕ)
+    (at end place : ℕ) (all : Result (Contents × ℕ) FileFault)
     → all ≡ entries_from left contents whole at → seen ≡ whole → 0 < left → wanted 1 contents.nodes ≢ 0
-    → GivesNext {X = Unit {0}} (Err refused) next end (next_at contents seen at) → GivesFor view (Err refused) place all
-stopped view (File fault) next left contents whole seen at end place all same seen_is some goes given =
+    → GivesNext {X = Unit {0}} (Err refused) next end (next_at contents seen at)
+    → GivesNext {X = Unit {0}} (Err refused) last place all
+stopped (File fault) next left contents last whole seen at end place all same seen_is some goes given =
     same ∙ entries_stopped left contents whole at fault some goes (ap (λ (w : List ℕ). next_at contents w at) (sym seen_is) ∙ given)
-stopped view NoMemory next left contents whole seen at end place all same seen_is some goes given = tt
+stopped NoMemory next left contents last whole seen at end place all same seen_is some goes given = tt

@@ -7,7 +7,7 @@ ghost use Rattle.def_file.specs.Reading.{entries_from, game_at, most_bytes};
 ghost use Rattle.def_file_form.specs.Laws.{StandsFor};
 ghost use Rattle.def_file_form.specs.First.{FirstFault};
 ghost use Rattle.xg_game.specs.Refusals.{Answers};
-ghost use Rattle.xg_read.specs.Gives.{GivesFor, GivesNext, next_at};
+ghost use Rattle.xg_read.specs.Gives.{GivesNext, next_at};
 
 use crate::entries::Lists;
 use crate::reader::Reader;
@@ -45,7 +45,7 @@ fn read_file(alloc: Global, bytes: &[u8]) -> Result<Game, Refused>
 {
     let mut reader = Reader::new(bytes);
     let prologue = reader.prologue(alloc)?;
-    let maker = GameMaker::new(
+    let mut maker = GameMaker::new(
         alloc,
         prologue.title,
         prologue.one,
@@ -53,10 +53,18 @@ fn read_file(alloc: Global, bytes: &[u8]) -> Result<Game, Refused>
         prologue.comment,
     );
     let mut lists = Lists::new(alloc);
-    let maker = read_entries(&mut reader, &mut lists, maker, MOST_ENTRIES)?;
+    let read = read_entries(&mut reader, &mut lists, &mut maker, MOST_ENTRIES);
+    drop(lists);
+    if let Err(refused) = read {
+        drop(maker);
+        return Err(refused);
+    }
     match reader.nothing() {
         Ok(_) => Ok(maker.finish()),
-        Err(fault) => Err(Refused::File(fault)),
+        Err(fault) => {
+            drop(maker);
+            Err(Refused::File(fault))
+        }
     }
 }
 
@@ -65,23 +73,22 @@ fn read_file(alloc: Global, bytes: &[u8]) -> Result<Game, Refused>
 fn read_entries<'a>(
     reader: &mut Reader<'a>,
     lists: &mut Lists<'a>,
-    maker: GameMaker,
+    maker: &mut GameMaker,
     most: usize,
-) -> Result<GameMaker, Refused>
-    requires { maker.spent ≡ false }
-    ensures exact { GivesFor (λ made. made.contents) result reader.new.at
-        (entries_from most maker.contents reader.old.whole reader.old.at) }
-    ensures complete { IfOk result (λ made. wanted 1 made.contents.nodes ≡ 0) }
-    ensures unspent { IfOk result (λ made. made.spent ≡ false) }
-    ensures prologue { IfOk result (λ made. made.prologue ≡ maker.prologue) }
+) -> Result<(), Refused>
+    requires { maker.old.spent ≡ false }
+    ensures exact { GivesNext result maker.new.contents reader.new.at
+        (entries_from most maker.old.contents reader.old.whole reader.old.at) }
+    ensures complete { OnOk result (wanted 1 maker.new.contents.nodes ≡ 0) }
+    ensures unspent { OnOk result (maker.new.spent ≡ false) }
+    ensures prologue { maker.new.prologue ≡ maker.old.prologue }
     ensures whole { reader.new.whole ≡ reader.old.whole }
 {
-    let mut maker = maker;
     'entries: for _ in 0..most {
         if maker.is_complete() {
-            return Ok(maker);
+            return Ok(());
         }
-        take_entry(reader, lists, &mut maker)?;
+        take_entry(reader, lists, maker)?;
     }
     Err(Refused::File(FileFault::TooManyNodes))
 }

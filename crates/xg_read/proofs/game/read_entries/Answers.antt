@@ -1,7 +1,6 @@
 use Rattle.std.proofs.Common.{◌≢◌, ◌+◌, ◌-◌, sym, ◌∙◌, arith}
 use Rattle.std.proofs.lemmas.Result.{err_from_is_err_and}
 use Rattle.def_tree.specs.Tree.{wanted}
-use Rattle.xg_game.specs.Made.{Made}
 use Rattle.xg_read.proofs.EntryByEntry.{entries_next, stopped}
 use Rattle.xg_read.proofs.game.read_entries.Goals as goal
 
@@ -10,7 +9,7 @@ returns-in_err-take_entry-clause-exact c =
     let unwhole : wanted 1 c.entries.maker.contents.nodes ≢ 0 = λ e. (let whole = sym (c.is_complete.ensures.complete.1 e) ∙ c.if-is_complete.false in cc) in
     let p = err_from_is_err_and c.from_residual.result c.from_residual.ensures.1 in
     rw (p.1, p.2)
-    (stopped (λ (made : Made). made.contents) _ c.take_entry.new.maker.contents (c.args.most - c.entries.counter) c.entries.maker.contents c.args.reader.now.whole c.entries.reader.whole
+    (stopped _ c.take_entry.new.maker.contents (c.args.most - c.entries.counter) c.entries.maker.contents _ c.args.reader.now.whole c.entries.reader.whole
     c.entries.reader.at c.take_entry.new.reader.at _ _ c.entries.invariant.rest c.entries.invariant.whole (omega arith) unwhole c.in_err-take_entry.ensures.exact)
 
 pub entries-preserved : goal.entries-preserved
