@@ -22,8 +22,13 @@ pub fn one_card_poker(alloc: Global, n: u32) -> Result<Game, AllocError>
     let two = plain(alloc, b"Two")?;
     let comment = plain(alloc, b"")?;
     let mut maker = GameMaker::new(alloc, title, one, two, comment);
-    put_entries(&mut maker, alloc, n)?;
-    Ok(maker.finish())
+    match put_entries(&mut maker, alloc, n) {
+        Ok(()) => Ok(maker.finish()),
+        Err(error) => {
+            drop(maker);
+            Err(error)
+        }
+    }
 }
 
 /// All entries.
