@@ -74,9 +74,10 @@ impl Numbers {
         // What is true of each game, by which the sum of an accepted one is whole.
         game.numbers_are_in_lowest_terms();
         let _tree = game.tree();
-        let weights = weigh(alloc, &game)?;
-        let (sum, unit, mass) = (weights.sum(), weights.unit(), weights.mass());
+        let weighed = weigh(alloc, &game);
         let tree = game.into_tree();
+        let weights = weighed?;
+        let (sum, unit, mass) = (weights.sum(), weights.unit(), weights.mass());
         let sets = sets_of(alloc, &tree)?;
         let form = form_of(alloc, &tree, &weights, &sets)?;
         let nodes = tree.len();
