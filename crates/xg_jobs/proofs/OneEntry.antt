@@ -1,9 +1,10 @@
 -- One entry for the leaves of a group that have the same sequence of the other player.
-use Rattle.std.proofs.Common.{◌≡◌, ℕ, zero, suc, ◌+◌, ◌-◌, ◌<◌, ◌≤◌, Bool, true, false, Some, cond, eqb, List, [], ◌∷◌, ◌++◌, length, get_or, slice_index, set, take, drop, map, All, ℤ, pos, ◌+ℤ◌, unsigned_abs, refl, sym, ap, subst, ◌∙◌, arith, ⊎_elim}
-use Rattle.std.proofs.lemmas.List.{drop_all, take_all, take-take, take-set-le, drop-set-add, drop-take, take-append-le, drop-append-le, length-set, length-map, length-append, length-drop, length-take-le, get_or-drop, get_or-set_same, get_or-set_other}
+use Rattle.std.proofs.Common.{◌≡◌, ℕ, zero, suc, ◌+◌, ◌-◌, ◌^◌, ◌<◌, ◌≤◌, Bool, true, false, Some, cond, eqb, List, [], ◌∷◌, ◌++◌, length, get_or, slice_index, set, take, drop, map, All, ℤ, pos, ◌+ℤ◌, unsigned_abs, FitsSigned, to_z, of_z, refl, sym, ap, subst, ◌∙◌, arith, ⊎_elim}
+use Rattle.std.specs.Int.{w64}
+use Rattle.std.proofs.lemmas.List.{drop_all, take_all, take_more, take-take, take-set-le, drop-set-add, drop-take, take-append-le, drop-append-le, length-set, length-map, length-append, length-drop, length-take-le, get_or-drop, get_or-set_same, get_or-set_other}
 use Rattle.std.proofs.lemmas.List.Elements.{All-pop, All-push, All-set}
 use Rattle.std.proofs.lemmas.Bool.{cases_lt}
-use Rattle.std.proofs.lemmas.Int.{ints}
+use Rattle.std.proofs.lemmas.Int.{fits_signed_from_abs, ints, to_z-of_z}
 use Rattle.std.proofs.Math.Seq.{take-append_seam}
 use Rattle.std.specs.List.{range_with_len}
 use Rattle.def_sums.proofs.Ranges.{All-range, at_most_sum, map-range_same}
@@ -12,7 +13,7 @@ use Rattle.def_sums.proofs.SumLaws.{sum_over-append, nat_sum_over-append, nat_su
 use Rattle.def_tree.specs.Rules.{most_nodes}
 use Rattle.xg_jobs.specs.Entries.{KeepsGroups}
 use Rattle.xg_jobs.specs.Groups.{GroupLeaf, group_at, group_mass, groups_mass, weight_with, weights_of}
-use Rattle.xg_jobs.proofs.GroupSums.{leaf_at, weight_within}
+use Rattle.xg_jobs.proofs.GroupSums.{leaf_at, mass_front, weight_within}
 use Rattle.xg_jobs.specs.Merging.{MayReplace, TakesLeaf, TakesGroup, MergedUpto, AreMerged, CanMerge}
 
 -- an entry with more weight
@@ -62,17 +63,30 @@ leaf_added begin place e x old from low read same =
           subst (All (λ y. y.other < others)) (sym back) (All-set (λ y. y.other < others) (drop begin old) j (more x e.weight) (omega (arith, same)) all);
     }
 
--- an entry's weight with a leaf's is within the mass of its group and the leaf
-pub sum_within : {X : Type 0} (leaf : X → GroupLeaf) (items : List X) (begin place : ℕ) (x : X) (w : ℤ) → begin ≤ place
-    → place < length items → x ≡ get_or items place x
-    → unsigned_abs ((leaf x).weight +ℤ w) ≤ group_mass (drop begin (map leaf items)) + unsigned_abs w
-sum_within leaf items begin place x w from low is =
+-- an entry's weight and a leaf's, added up in 64 bits: they hold the sum, which is within the mass of the entry's group
+-- and the leaf
+pub record AddUp (one other entry leaf : ℤ) (mass : ℕ) : Type 0 where
+  pub fits : FitsSigned w64 (to_z w64 (of_z w64 one) +ℤ to_z w64 (of_z w64 other))
+  pub sum_is : to_z w64 (of_z w64 (to_z w64 (of_z w64 one) +ℤ to_z w64 (of_z w64 other))) ≡ entry +ℤ leaf
+  pub within : unsigned_abs (entry +ℤ leaf) ≤ mass
+
+pub weights_add_up : {X : Type 0} (leaf : X → GroupLeaf) (items : List X) (begin place : ℕ) (x : X) (one other w : ℤ)
+    → begin ≤ place → place < length items → x ≡ get_or items place x
+    → FitsSigned w64 one → one ≡ (leaf x).weight → FitsSigned w64 other → other ≡ w
+    → group_mass (drop begin (map leaf items)) + unsigned_abs w < 2 ^ 63
+    → AddUp one other (leaf x).weight w (group_mass (drop begin (map leaf items)) + unsigned_abs w)
+weights_add_up leaf items begin place x one other w from low is fits_one one_is fits_other other_is light =
     let gs : List GroupLeaf = map leaf items in
     let j : ℕ = place - begin in
     let at : begin + j ≡ place = omega arith in
     let inside : j < length (drop begin gs) = omega (arith, length-drop begin gs, length-map items leaf) in
     let read : get_or (drop begin gs) j (leaf x) ≡ leaf x = get_or-drop begin gs j (leaf x) ∙ ap (λ k. get_or gs k (leaf x)) at ∙ leaf_at leaf items place x low is in
-    omega (arith, unsigned_abs-+ℤ (leaf x).weight w, weight_within (drop begin gs) j (leaf x) inside read)
+    let within : unsigned_abs ((leaf x).weight +ℤ w) ≤ group_mass (drop begin gs) + unsigned_abs w =
+    omega (arith, unsigned_abs-+ℤ (leaf x).weight w, weight_within (drop begin gs) j (leaf x) inside read) in
+    let sum : ℤ = to_z w64 (of_z w64 one) +ℤ to_z w64 (of_z w64 other) in
+    let sum_is : sum ≡ (leaf x).weight +ℤ w = λ i. (to_z-of_z w64 one fits_one ∙ one_is) i +ℤ (to_z-of_z w64 other fits_other ∙ other_is) i in
+    let fits : FitsSigned w64 sum = fits_signed_from_abs w64 sum (omega (arith, ap unsigned_abs sum_is, within, light)) in
+    record { fits = fits; sum_is = to_z-of_z w64 sum fits ∙ sum_is; within = within }
 
 -- a leaf with an entry of its own
 pub leaf_pushed : (begin : ℕ) (e : GroupLeaf) (old : List GroupLeaf) → begin ≤ length old
@@ -119,6 +133,31 @@ takes_more leaves e old now new group leaf = record {
         leaf.within others (group.stands.within others parts.0) parts.1;
   };
 }
+
+-- the next leaf that is taken of a group
+pub next_leaf : {X : Type 0} (leaf : X → GroupLeaf) (group : List X) (i : ℕ) (x : X) → i < length group
+    → x ≡ get_or group i x
+    → take (i + 1) (map leaf group) ≡ take i (map leaf group) ++ leaf x ∷ []
+next_leaf leaf group i x low is =
+    take_more (map leaf group) i (leaf x) (omega (arith, length-map group leaf))
+    ∙ ap (λ y. take i (map leaf group) ++ y ∷ []) (leaf_at leaf group i x low is)
+
+-- with what stands for those before it, it is within the group's mass
+pub taken_mass : {X : Type 0} (leaf : X → GroupLeaf) (group entries : List X) (begin i : ℕ) (x : X)
+    (now : List GroupLeaf) → i < length group → x ≡ get_or group i x → begin ≡ length entries
+    → TakesGroup (take i (map leaf group)) (map leaf entries) now
+    → group_mass (drop begin now) + unsigned_abs (leaf x).weight ≤ group_mass (map leaf group)
+taken_mass leaf group entries begin i x now low is begins takes =
+    let gs : List GroupLeaf = map leaf group in
+    let begin_is : begin ≡ length (map leaf entries) = omega (arith, length-map entries leaf) in
+    omega (
+      arith,
+      ap (λ k. group_mass (drop k now)) begin_is,
+      takes.stands.mass,
+      ap group_mass (next_leaf leaf group i x low is),
+      nat_sum_over-append (λ (y : GroupLeaf). unsigned_abs y.weight) (take i gs) (leaf x ∷ []),
+      mass_front gs (i + 1),
+    )
 
 -- what stands in front is as it was
 front_same : (xs old : List GroupLeaf) (a b : ℕ) → take (length old) xs ≡ old → b ≤ length old → a ≤ b

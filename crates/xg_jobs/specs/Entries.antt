@@ -7,8 +7,8 @@ use Rattle.def_plan.specs.Payoff.{mass_of}
 use Rattle.xg_jobs.specs.declared.entry.SmallEntry.{SmallEntry}
 use Rattle.xg_jobs.specs.declared.entry.TinyEntry.{TinyEntry}
 use Rattle.xg_jobs.specs.declared.entry.WideEntry.{WideEntry}
-use Rattle.xg_jobs.specs.declared.groups.GroupEntries.{GroupEntries}
-use Rattle.xg_jobs.specs.declared.groups.GroupEntries.TheVariants.{Small, Tiny, Wide}
+use Rattle.xg_jobs.specs.declared.entry.GroupEntries.{GroupEntries}
+use Rattle.xg_jobs.specs.declared.entry.GroupEntries.TheVariants.{Small, Tiny, Wide}
 use Rattle.xg_jobs.specs.Groups.{GroupLeaf, group_at, groups_mass}
 use Rattle.xg_jobs.specs.Grouping.{pair_weights, weights_in}
 

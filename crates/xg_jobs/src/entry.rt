@@ -20,6 +20,14 @@ pub(crate) trait GroupEntry: Copy {
         ensures { result ≡ (leaf self.now).weight };
 }
 
+/// Entries in which each weight has room.
+#[derive(Drop)]
+pub(crate) enum GroupEntries {
+    Tiny(Vec<TinyEntry>),
+    Small(Vec<SmallEntry>),
+    Wide(Vec<WideEntry>),
+}
+
 /// An entry of 4 bytes, which most games' leaves fit.
 #[derive(Clone, Copy)]
 pub(crate) struct TinyEntry {

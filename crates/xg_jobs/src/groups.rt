@@ -10,11 +10,11 @@ ghost use Rattle.xg_jobs.specs.Groups.{greatest_of};
 ghost use Rattle.xg_jobs.specs.Merging.{HasRoomUpTo};
 ghost use Rattle.xg_jobs.specs.Rows.{AreNumbersOf, ArePlainSums};
 
-use crate::entry::{GroupEntry, SmallEntry, TinyEntry, WideEntry};
+use crate::entry::{GroupEntries, GroupEntry, SmallEntry, WideEntry};
 use crate::grouping::{entries_of, starts_of};
 use crate::input::RowInput;
 use crate::merging::{Grouped, merged};
-use crate::packing::{are_small, are_tiny, small_entries, tiny_entries};
+use crate::packing::MergedEntry;
 use crate::rows::{Rows, SmallRows};
 use crate::sizes::{greatest_number, total_mass};
 use crate::writing::{write_rows, write_small_rows};
@@ -34,43 +34,6 @@ pub(crate) struct LeafGroups {
     others: u32,
     // the sizes of the weights of all leaves together, which those of the entries are within
     mass: u64,
-}
-
-/// Entries in which each weight has room.
-#[derive(Drop)]
-pub(crate) enum GroupEntries {
-    Tiny(Vec<TinyEntry>),
-    Small(Vec<SmallEntry>),
-    Wide(Vec<WideEntry>),
-}
-
-impl GroupEntries {
-    ghost use Rattle.std.specs.Prelude.{map};
-    ghost use Rattle.xg_jobs.specs.Entries.{leaves_of_group, small_leaf, wide_leaf};
-
-    // The smallest entries that have room for all leaves.
-    fn from_small(alloc: Global, entries: Vec<SmallEntry>) -> Result<GroupEntries, AllocError>
-        ensures { IfOk result (λ packed. leaves_of_group packed ≡ map small_leaf entries.items) }
-    {
-        if are_tiny(&entries) {
-            Ok(GroupEntries::Tiny(tiny_entries(alloc, &entries)?))
-        } else {
-            Ok(GroupEntries::Small(entries))
-        }
-    }
-
-    // And those for leaves whose weights may need all bits.
-    fn from_wide(alloc: Global, entries: Vec<WideEntry>) -> Result<GroupEntries, AllocError>
-        ensures { IfOk result (λ packed. leaves_of_group packed ≡ map wide_leaf entries.items) }
-    {
-        if are_tiny(&entries) {
-            Ok(GroupEntries::Tiny(tiny_entries(alloc, &entries)?))
-        } else if are_small(&entries) {
-            Ok(GroupEntries::Small(small_entries(alloc, &entries)?))
-        } else {
-            Ok(GroupEntries::Wide(entries))
-        }
-    }
 }
 
 impl Model for LeafGroups {
@@ -94,38 +57,29 @@ impl LeafGroups {
         ensures mass { IfOk result (λ groups. groups.mass ≡ mass_of form.now.leaves) }
     {
         let mass = total_mass(form);
-        if mass < 1 << 31 {
-            LeafGroups::light(alloc, form, mass)
+        // Small entries have room for the sum of any weights whose sizes together are within 31 bits.
+        if mass <= i32::MAX as u64 {
+            LeafGroups::of::<SmallEntry>(alloc, form, mass)
         } else {
-            LeafGroups::heavy(alloc, form, mass)
+            LeafGroups::of::<WideEntry>(alloc, form, mass)
         }
     }
 
-    // Where weights add up to less than 31 bits, whichever are added, small entries have room for them.
-    fn light(alloc: Global, form: &SeqForm, mass: u64) -> Result<LeafGroups, AllocError>
+    // Leaves with the same sequences become one in such entries, which are packed then.
+    fn of<E: MergedEntry>(
+        alloc: Global,
+        form: &SeqForm,
+        mass: u64,
+    ) -> Result<LeafGroups, AllocError>
         requires mass { mass ≡ mass_of form.now.leaves }
-        requires light { mass < 2 ^ 31 }
+        requires room { HasRoomUpTo E.has_room mass }
         ensures weights { IfOk result (λ groups. groups.weights ≡ pair_weights form.now One) }
         ensures mass { IfOk result (λ groups. groups.mass ≡ mass) }
     {
-        let groups = grouped::<SmallEntry>(alloc, form)?;
+        let groups = grouped::<E>(alloc, form)?;
         Ok(LeafGroups {
             starts: groups.starts,
-            entries: GroupEntries::from_small(alloc, groups.entries)?,
-            others: form.sequence_count(Player::Two),
-            mass,
-        })
-    }
-
-    fn heavy(alloc: Global, form: &SeqForm, mass: u64) -> Result<LeafGroups, AllocError>
-        requires mass { mass ≡ mass_of form.now.leaves }
-        ensures weights { IfOk result (λ groups. groups.weights ≡ pair_weights form.now One) }
-        ensures mass { IfOk result (λ groups. groups.mass ≡ mass) }
-    {
-        let groups = grouped::<WideEntry>(alloc, form)?;
-        Ok(LeafGroups {
-            starts: groups.starts,
-            entries: GroupEntries::from_wide(alloc, groups.entries)?,
+            entries: E::pack(alloc, groups.entries)?,
             others: form.sequence_count(Player::Two),
             mass,
         })

@@ -1,11 +1,44 @@
 //! Entries in fewer bytes.
 ghost use Rattle.std.specs.Prelude.{◌≡◌, All, FitsSigned, IfOk, IsTrue, map};
 ghost use Rattle.std.specs.Int.{w32};
-ghost use Rattle.xg_jobs.specs.Entries.{small_leaf, tiny_leaf, wide_leaf};
+ghost use Rattle.xg_jobs.specs.Entries.{leaves_of_group, small_leaf, tiny_leaf, wide_leaf};
 ghost use Rattle.xg_jobs.specs.Groups.{IsSmall, IsTiny};
 
-use crate::entry::{GroupEntry, SmallEntry, TinyEntry, WideEntry};
+use crate::entry::{GroupEntries, GroupEntry, SmallEntry, TinyEntry, WideEntry};
 use std::alloc::{AllocError, Global};
+
+/// An entry in which leaves with the same sequences are added up, before it is packed.
+pub(crate) trait MergedEntry: GroupEntry {
+    /// The same leaves in the smallest entries that have room for all of them.
+    fn pack(alloc: Global, entries: Vec<Self>) -> Result<GroupEntries, AllocError>
+        ensures { IfOk result (λ packed. leaves_of_group packed ≡ map Self.leaf entries.items) };
+}
+
+impl MergedEntry for SmallEntry {
+    fn pack(alloc: Global, entries: Vec<SmallEntry>) -> Result<GroupEntries, AllocError>
+        ensures { IfOk result (λ packed. leaves_of_group packed ≡ map small_leaf entries.items) }
+    {
+        if are_tiny(&entries) {
+            Ok(GroupEntries::Tiny(tiny_entries(alloc, &entries)?))
+        } else {
+            Ok(GroupEntries::Small(entries))
+        }
+    }
+}
+
+impl MergedEntry for WideEntry {
+    fn pack(alloc: Global, entries: Vec<WideEntry>) -> Result<GroupEntries, AllocError>
+        ensures { IfOk result (λ packed. leaves_of_group packed ≡ map wide_leaf entries.items) }
+    {
+        if are_tiny(&entries) {
+            Ok(GroupEntries::Tiny(tiny_entries(alloc, &entries)?))
+        } else if are_small(&entries) {
+            Ok(GroupEntries::Small(small_entries(alloc, &entries)?))
+        } else {
+            Ok(GroupEntries::Wide(entries))
+        }
+    }
+}
 
 /// Whether each leaf has room in a tiny entry.
 pub(crate) fn are_tiny<E: GroupEntry>(entries: &[E]) -> bool

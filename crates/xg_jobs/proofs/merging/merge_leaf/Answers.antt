@@ -1,48 +1,30 @@
-use Rattle.std.proofs.Common.{◌≡◌, ℕ, ◌<◌, List, length, set, map, slice_index, ℤ, ◌+ℤ◌, unsigned_abs, FitsSigned, to_z, of_z, sym, ap, subst, ◌∙◌, arith, rules, ◌++◌, [], ◌∷◌}
+use Rattle.std.proofs.Common.{◌≡◌, ℕ, ◌<◌, List, length, set, map, slice_index, ℤ, ◌+ℤ◌, to_z, of_z, sym, ap, subst, ◌∙◌, unsigned_abs, arith, rules, ◌++◌, [], ◌∷◌}
 use Rattle.std.specs.Int.{w64}
-use Rattle.std.proofs.lemmas.Int.{to_z-of_z, fits_signed_from_abs}
 use Rattle.std.proofs.lemmas.List.{length-map, get_or_default, map-set, map-append}
 use Rattle.xg_jobs.specs.Groups.{GroupLeaf}
 use Rattle.xg_jobs.specs.Merging.{TakesLeaf}
 use Rattle.xg_jobs.proofs.GroupSums.{leaf_at}
-use Rattle.xg_jobs.proofs.OneEntry.{leaf_added, leaf_pushed, more as with_more, sum_within}
+use Rattle.xg_jobs.proofs.OneEntry.{leaf_added, leaf_pushed, more as with_more, weights_add_up}
 use Rattle.xg_jobs.proofs.merging.merge_leaf.Goals as goal
 
 pub overflow_add-weight : goal.overflow_add-weight
 overflow_add-weight g c =
     let items = c.args.entries.now.items in
     let place : ℕ = slice_index c.args.places.now c.other-other.result in
-    let low : place < length items = omega arith in
     let x = c.index-then-other.result.now in
-    let leaf = g.E.GroupEntry.leaf in
-    let more : ℤ = (leaf c.args.e).weight in
-    let fits_x : FitsSigned w64 c.weight.result = search rules in
-    let x_is : to_z w64 (of_z w64 c.weight.result) ≡ (leaf x).weight = to_z-of_z w64 c.weight.result fits_x ∙ c.weight.ensures in
-    let fits_e : FitsSigned w64 c.weight-then-other.result = search rules in
-    let e_is : to_z w64 (of_z w64 c.weight-then-other.result) ≡ more = to_z-of_z w64 c.weight-then-other.result fits_e ∙ c.weight-then-other.ensures in
-    let sum = to_z w64 (of_z w64 c.weight.result) +ℤ to_z w64 (of_z w64 c.weight-then-other.result) in
-    let sum_is : sum ≡ (leaf x).weight +ℤ more = λ i. x_is i +ℤ e_is i in
-    let within = sum_within leaf items c.args.begin place x more (omega arith) low c.index-then-other.ensures in
-    fits_signed_from_abs w64 sum (omega (arith, ap unsigned_abs sum_is, within, c.requires.light))
+    let both = weights_add_up g.E.GroupEntry.leaf items c.args.begin place x c.weight.result c.weight-then-other.result _
+    (omega arith) (omega arith) c.index-then-other.ensures (search rules) c.weight.ensures (search rules) c.weight-then-other.ensures c.requires.light in
+    both.fits
 
 pub new-requires : goal.new-requires
 new-requires g c =
     let items = c.args.entries.now.items in
     let place : ℕ = slice_index c.args.places.now c.other-other.result in
-    let low : place < length items = omega arith in
     let x = c.index-then-other.result.now in
-    let leaf = g.E.GroupEntry.leaf in
-    let more : ℤ = (leaf c.args.e).weight in
-    let fits_x : FitsSigned w64 c.weight.result = search rules in
-    let x_is : to_z w64 (of_z w64 c.weight.result) ≡ (leaf x).weight = to_z-of_z w64 c.weight.result fits_x ∙ c.weight.ensures in
-    let fits_e : FitsSigned w64 c.weight-then-other.result = search rules in
-    let e_is : to_z w64 (of_z w64 c.weight-then-other.result) ≡ more = to_z-of_z w64 c.weight-then-other.result fits_e ∙ c.weight-then-other.ensures in
-    let sum = to_z w64 (of_z w64 c.weight.result) +ℤ to_z w64 (of_z w64 c.weight-then-other.result) in
-    let sum_is : sum ≡ (leaf x).weight +ℤ more = λ i. x_is i +ℤ e_is i in
-    let within = sum_within leaf items c.args.begin place x more (omega arith) low c.index-then-other.ensures in
-    let fits : FitsSigned w64 sum = fits_signed_from_abs w64 sum (omega (arith, ap unsigned_abs sum_is, within, c.requires.light)) in
-    let kept : to_z w64 (of_z w64 sum) ≡ sum = to_z-of_z w64 sum fits in
-    c.requires.room (record { other = c.other-other.result; weight = to_z w64 (of_z w64 sum) }) (omega (arith, ap unsigned_abs (kept ∙ sum_is), within))
+    let both = weights_add_up g.E.GroupEntry.leaf items c.args.begin place x c.weight.result c.weight-then-other.result _
+    (omega arith) (omega arith) c.index-then-other.ensures (search rules) c.weight.ensures (search rules) c.weight-then-other.ensures c.requires.light in
+    c.requires.room (record { other = c.other-other.result; weight = to_z w64 (of_z w64 (to_z w64 (of_z w64 c.weight.result) +ℤ to_z w64 (of_z w64 c.weight-then-other.result))) })
+    (omega (arith, ap unsigned_abs both.sum_is, both.within))
 
 pub returns-then-other : goal.returns-then-other
 returns-then-other g c =
@@ -52,21 +34,14 @@ returns-then-other g c =
     let x = c.index-then-other.result.now in
     let leaf = g.E.GroupEntry.leaf in
     let more : ℤ = (leaf c.args.e).weight in
-    let fits_x : FitsSigned w64 c.weight.result = search rules in
-    let x_is : to_z w64 (of_z w64 c.weight.result) ≡ (leaf x).weight = to_z-of_z w64 c.weight.result fits_x ∙ c.weight.ensures in
-    let fits_e : FitsSigned w64 c.weight-then-other.result = search rules in
-    let e_is : to_z w64 (of_z w64 c.weight-then-other.result) ≡ more = to_z-of_z w64 c.weight-then-other.result fits_e ∙ c.weight-then-other.ensures in
-    let sum = to_z w64 (of_z w64 c.weight.result) +ℤ to_z w64 (of_z w64 c.weight-then-other.result) in
-    let sum_is : sum ≡ (leaf x).weight +ℤ more = λ i. x_is i +ℤ e_is i in
-    let within = sum_within leaf items c.args.begin place x more (omega arith) low c.index-then-other.ensures in
-    let fits : FitsSigned w64 sum = fits_signed_from_abs w64 sum (omega (arith, ap unsigned_abs sum_is, within, c.requires.light)) in
-    let kept : to_z w64 (of_z w64 sum) ≡ sum = to_z-of_z w64 sum fits in
+    let sum = weights_add_up leaf items c.args.begin place x c.weight.result c.weight-then-other.result more
+    (omega arith) low c.index-then-other.ensures (search rules) c.weight.ensures (search rules) c.weight-then-other.ensures c.requires.light in
     let gs : List GroupLeaf = map leaf items in
     let y = c.index.result.now in
     let both : y ≡ x = c.index.ensures ∙ get_or_default items place y x low ∙ sym c.index-then-other.ensures in
     let own : (leaf x).other ≡ c.other-other.result = ap (λ z. (leaf z).other) (sym both) ∙ omega arith in
     let known : ℕ → ℤ → GroupLeaf = λ b w. record { other = b; weight = w } in
-    let leaf_is : leaf c.new.result ≡ with_more (leaf x) more = c.new.ensures ∙ (λ i. known (sym own i) ((kept ∙ sum_is) i)) in
+    let leaf_is : leaf c.new.result ≡ with_more (leaf x) more = c.new.ensures ∙ (λ i. known (sym own i) (sum.sum_is i)) in
     let set_is : map leaf (set items place c.new.result) ≡ set gs place (with_more (leaf x) more) = map-set leaf items place c.new.result ∙ (λ i. set gs place (leaf_is i)) in
     subst (TakesLeaf c.args.begin (leaf c.args.e) gs) (sym set_is)
     (leaf_added c.args.begin place (leaf c.args.e) (leaf x) gs (omega arith) (omega (arith, length-map items leaf))

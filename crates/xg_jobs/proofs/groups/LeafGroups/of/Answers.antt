@@ -1,24 +1,25 @@
 use Rattle.std.proofs.Common.{List, map, ap, subst, sym, ◌∙◌}
 use Rattle.def_plan.specs.Form.{sequence_count}
-use Rattle.xg_jobs.specs.Entries.{KeepsGroups, wide_leaf}
+use Rattle.xg_jobs.specs.Entries.{KeepsGroups}
 use Rattle.xg_jobs.specs.Groups.{GroupLeaf}
 use Rattle.xg_jobs.specs.Grouping.{weights_in}
-use Rattle.xg_jobs.proofs.groups.LeafGroups.heavy.Goals as goal
+use Rattle.xg_jobs.specs.Merging.{HasRoomUpTo}
+use Rattle.xg_jobs.proofs.groups.LeafGroups.of.Goals as goal
 
 pub grouped-requires : goal.grouped-requires
-grouped-requires c = record { room = λ e small. tt }
+grouped-requires g c = record { room = subst (HasRoomUpTo g.E.GroupEntry.has_room) c.requires.mass c.requires.room }
 
 pub invariant_of-result : goal.invariant_of-result
-invariant_of-result c =
+invariant_of-result g c =
     let starts = c.in_ok-groups.groups.starts.items in
-    let entries : List GroupLeaf = map wide_leaf c.in_ok-groups.groups.entries.items in
+    let entries : List GroupLeaf = map g.E.GroupEntry.leaf c.in_ok-groups.groups.entries.items in
     let kept = c.in_ok-groups.ensures.keeps in
-    subst (λ es. KeepsGroups starts es c.sequence_count.result c.args.mass) (sym c.in_ok-from_wide.ensures)
+    subst (λ es. KeepsGroups starts es c.sequence_count.result c.args.mass) (sym c.in_ok-pack.ensures)
     (subst (λ n. KeepsGroups starts entries n c.args.mass) (sym c.sequence_count.ensures.count) (subst (KeepsGroups starts entries (sequence_count c.args.form.now.sets_two)) (sym c.requires.mass) kept))
 
 pub returns-clause-weights : goal.returns-clause-weights
-returns-clause-weights c =
+returns-clause-weights g c =
     let starts = c.in_ok-groups.groups.starts.items in
-    let entries : List GroupLeaf = map wide_leaf c.in_ok-groups.groups.entries.items in
-    ap (λ es. weights_in starts es c.sequence_count.result) c.in_ok-from_wide.ensures
+    let entries : List GroupLeaf = map g.E.GroupEntry.leaf c.in_ok-groups.groups.entries.items in
+    ap (λ es. weights_in starts es c.sequence_count.result) c.in_ok-pack.ensures
     ∙ ap (weights_in starts entries) c.sequence_count.ensures.count ∙ c.in_ok-groups.ensures.weights
