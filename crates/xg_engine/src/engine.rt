@@ -74,12 +74,17 @@ impl Engine {
         ensures no_outcome { IfOk result (λ engine. engine.outcome ≡ None) }
         ensures no_sums { IfOk result (λ engine. engine.sums ≡ None) }
     {
-        let jobs = JobTable::without_rows(alloc, numbers.form(), game.tree())?;
-        Ok(Engine {
-            numbers,
-            jobs,
-            last_run: None,
-        })
+        match JobTable::without_rows(alloc, numbers.form(), game.tree()) {
+            Ok(jobs) => Ok(Engine {
+                numbers,
+                jobs,
+                last_run: None,
+            }),
+            Err(error) => {
+                drop(numbers);
+                Err(error)
+            }
+        }
     }
 
     /// Plays rounds of counterfactual regret minimisation from the first one on (Zinkevich, Johanson, Bowling and

@@ -83,10 +83,10 @@ impl Evaluator {
         ensures board { IfOk result (λ evaluator. evaluator.board.board ≡ new_board) }
     {
         Ok(Evaluator {
-            board: Board::of_variant(alloc, form, evaluations, variant)?,
-            room: RowRoom::new(alloc, form)?,
             reply_one: Reply::new(alloc, form, Player::One)?,
             reply_two: Reply::new(alloc, form, Player::Two)?,
+            room: RowRoom::new(alloc, form)?,
+            board: Board::of_variant(alloc, form, evaluations, variant)?,
         })
     }
 

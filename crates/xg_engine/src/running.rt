@@ -83,6 +83,27 @@ impl Run {
         }
         Ok(())
     }
+
+    /// Plays all rounds.
+    fn play_rounds<Rt: Threads + Wait + Sync, M: RowMaker>(
+        &mut self,
+        source: &RowSource<'_, Rt, M>,
+        variant: Variant,
+        settings: Settings,
+    ) -> Result<(), AllocError>
+        requires sync { IsSync Rt.row }
+        requires can { M.can_make source.now.maker.now }
+        requires table { Serves (M.by_packets source.now.maker.now) source.now.form.now source.now.jobs.now }
+        requires form { IsSoundForm source.now.form.now }
+        requires limits { AreWithinLimitsOf variant settings }
+        requires run { IsAfter variant source.now.form.now settings 0 self.old }
+        ensures { OnOk result (IsAfter variant source.now.form.now settings settings.rounds self.new) }
+    {
+        for so_far in 0..settings.rounds {
+            self.step(source, variant, settings, so_far)?;
+        }
+        Ok(())
+    }
 }
 
 /// Plays all rounds. Whatever outlives a round is made before the first one.
@@ -106,10 +127,13 @@ pub(crate) fn play<Rt: Threads + Wait + Sync, M: RowMaker>(
 {
     form_is_sound(source.form);
     let mut run = Run::new(source.alloc, source.form, variant, settings)?;
-    for so_far in 0..settings.rounds {
-        run.step(source, variant, settings, so_far)?;
+    match run.play_rounds(source, variant, settings) {
+        Ok(()) => Ok(finish(head, run)),
+        Err(error) => {
+            drop(run);
+            Err(error)
+        }
     }
-    Ok(finish(head, run))
 }
 
 // Nothing but what is true of every form.

@@ -1,19 +1,16 @@
-use Rattle.std.proofs.Common.{◌≡◌, ap, sym, ◌∙◌, arith}
+use Rattle.std.proofs.Common.{ap, sym, ◌∙◌}
 use Rattle.def_reply.specs.Offers.{board_after}
 use Rattle.def_run.specs.Run.{offers_in, outcome_with}
 use Rattle.def_plus_run.specs.VariantRun.{run_of}
 use Rattle.xg_cert.specs.Outcome.{head_of}
-use Rattle.xg_engine.specs.Evaluations.{offers_upto}
 use Rattle.xg_engine.proofs.running.play.Goals as goal
 
-pub returns-clause-outcome : goal.returns-clause-outcome
-returns-clause-outcome g c =
+pub returns-in-Ok-clause-outcome : goal.returns-in-Ok-clause-outcome
+returns-in-Ok-clause-outcome g c =
     let form = c.args.source.now.form.now in
     let settings = c.args.settings in
     let variant = c.args.variant in
     let head = head_of c.args.head in
     let asked = c.requires.head in
-    let all : c.loop-so_far.so_far ≡ settings.rounds = omega (arith, c.loop-so_far-test.false, c.loop-so_far.auto.so_far-end) in
-    c.finish.ensures.outcome ∙ ap (outcome_with head) c.loop-so_far.invariant.board
-    ∙ ap (λ n. outcome_with head (board_after (offers_upto variant form settings n))) all
+    c.finish.ensures.outcome ∙ ap (outcome_with head) c.in-Ok.ensures.board
     ∙ (λ i. outcome_with head (board_after (offers_in form (run_of variant form (sym asked.scale i)) (sym asked.every i) (sym asked.rounds i))))
