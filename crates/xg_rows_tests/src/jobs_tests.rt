@@ -158,6 +158,57 @@ static SUMS: [Summed; 7] = [
     },
 ];
 
+/// Chance tosses a coin that nobody sees, and matching pennies follows either way. So a leaf of the second half has the
+/// sequences of the one in its place of the first half.
+static PENNIES_AFTER_COIN: [Node; 15] = [
+    node!(Chance, 1, 2),
+    node!(One, 1, 2),
+    node!(Two, 1, 2),
+    LEAF,
+    LEAF,
+    node!(Two, 1, 2),
+    LEAF,
+    LEAF,
+    node!(One, 1, 2),
+    node!(Two, 1, 2),
+    LEAF,
+    LEAF,
+    node!(Two, 1, 2),
+    LEAF,
+    LEAF,
+];
+
+const HALF: i64 = 1 << 30;
+
+// The sizes of all weights together are the greatest number of 31 bits, and one more.
+static SUMS_AFTER_COIN: [Summed; 5] = [
+    Summed {
+        weights: &[0, 0, 0, HALF, 0, 0, 0, HALF - 1],
+        number: 1,
+        sums: [0, 0, (1 << 31) - 1],
+    },
+    Summed {
+        weights: &[0, -HALF, 0, 0, 0, 1 - HALF, 0, 0],
+        number: MOST,
+        sums: [(1 << 36) - (1 << 67), 0, 0],
+    },
+    Summed {
+        weights: &[0, 0, 0, HALF, 0, 0, 0, HALF],
+        number: 1,
+        sums: [0, 0, 1 << 31],
+    },
+    Summed {
+        weights: &[0, 0, -HALF, 0, 0, 0, -HALF, 0],
+        number: MOST,
+        sums: [0, -1 << 67, 0],
+    },
+    Summed {
+        weights: &[0, 0, -HALF - 1, 0, 0, 0, -HALF, 0],
+        number: 1,
+        sums: [0, (-1 << 31) - 1, 0],
+    },
+];
+
 fn has_sums<Rt: Abort + Threads + Wait + Sync>(
     rt: &Rt,
     alloc: Global,
@@ -178,13 +229,14 @@ fn has_sums<Rt: Abort + Threads + Wait + Sync>(
 fn sums_up<Rt: Abort + Threads + Wait + Sync>(
     rt: &Rt,
     alloc: Global,
+    nodes: &[Node],
     row: &Summed,
 ) -> Result<bool, Fail>
     requires sync { IsSync Rt.row }
     requires mass { sum (map unsigned_abs row.now.weights.now) ≤ most_mass }
     requires number { row.now.number ≤ most_root }
 {
-    let built = build(rt, alloc, &PENNIES, row.weights)?;
+    let built = build(rt, alloc, nodes, row.weights)?;
     let same = has_sums(rt, alloc, &built, row);
     drop(built);
     Ok(same?)
@@ -194,6 +246,7 @@ fn sums_up<Rt: Abort + Threads + Wait + Sync>(
 fn first_other_sums<Rt: Abort + Threads + Wait + Sync>(
     rt: &Rt,
     alloc: Global,
+    nodes: &[Node],
     rows: &[Summed],
 ) -> Result<Option<usize>, Fail>
     requires sync { IsSync Rt.row }
@@ -201,7 +254,7 @@ fn first_other_sums<Rt: Abort + Threads + Wait + Sync>(
     requires number { All (λ row. row.number ≤ most_root) rows.now }
 {
     for (k, row) in rows.iter().enumerate() {
-        if !sums_up(rt, alloc, row)? {
+        if !sums_up(rt, alloc, nodes, row)? {
             return Ok(Some(k));
         }
     }
@@ -210,7 +263,15 @@ fn first_other_sums<Rt: Abort + Threads + Wait + Sync>(
 
 #[test]
 fn sums_the_leaves_of_matching_pennies(rt: HostRuntime) -> Result<(), Fail> {
-    let other = first_other_sums(&rt, rt.alloc(), &SUMS)?;
+    let other = first_other_sums(&rt, rt.alloc(), &PENNIES, &SUMS)?;
+    assert_eq!(rt; other, None);
+    Ok(())
+}
+
+// Leaves with the same sequences become one entry, in which their weights together have room.
+#[test]
+fn sums_leaves_of_the_same_sequences(rt: HostRuntime) -> Result<(), Fail> {
+    let other = first_other_sums(&rt, rt.alloc(), &PENNIES_AFTER_COIN, &SUMS_AFTER_COIN)?;
     assert_eq!(rt; other, None);
     Ok(())
 }
