@@ -5,6 +5,7 @@ ghost use Rattle.def_sums.specs.Limits.{most_mass, most_root};
 ghost use Rattle.xg_jobs.specs.Rows.{AreNumbersOf};
 ghost use Rattle.xg_jobs.specs.Table.{IsTableOf};
 
+use crate::games::THREE_DEALS;
 use crate::made::{Built, are_rows, build, input_of};
 use std::alloc::{AllocError, Global};
 use std::process::Abort;
@@ -158,52 +159,33 @@ static SUMS: [Summed; 7] = [
     },
 ];
 
-/// Chance tosses a coin that nobody sees, and matching pennies follows either way. So a leaf of the second half has the
-/// sequences of the one in its place of the first half.
-static PENNIES_AFTER_COIN: [Node; 15] = [
-    node!(Chance, 1, 2),
-    node!(One, 1, 2),
-    node!(Two, 1, 2),
-    LEAF,
-    LEAF,
-    node!(Two, 1, 2),
-    LEAF,
-    LEAF,
-    node!(One, 1, 2),
-    node!(Two, 1, 2),
-    LEAF,
-    LEAF,
-    node!(Two, 1, 2),
-    LEAF,
-    LEAF,
-];
-
 const HALF: i64 = 1 << 30;
 
-// The sizes of all weights together are the greatest number of 31 bits, and one more.
-static SUMS_AFTER_COIN: [Summed; 5] = [
+// A leaf has the sequences of the one in its place after another deal. The sizes of all weights together are the
+// greatest number of 31 bits, and one and two more.
+static SUMS_AFTER_DEALS: [Summed; 5] = [
     Summed {
-        weights: &[0, 0, 0, HALF, 0, 0, 0, HALF - 1],
+        weights: &[0, 0, 0, HALF, 0, 0, 0, HALF - 2, 0, 0, 0, 1],
         number: 1,
         sums: [0, 0, (1 << 31) - 1],
     },
     Summed {
-        weights: &[0, -HALF, 0, 0, 0, 1 - HALF, 0, 0],
+        weights: &[0, -HALF, 0, 0, 0, 1 - HALF, 0, 0, 0, 0, 0, 0],
         number: MOST,
         sums: [(1 << 36) - (1 << 67), 0, 0],
     },
     Summed {
-        weights: &[0, 0, 0, HALF, 0, 0, 0, HALF],
+        weights: &[0, 0, 0, HALF, 0, 0, 0, HALF - 1, 0, 0, 0, 1],
         number: 1,
         sums: [0, 0, 1 << 31],
     },
     Summed {
-        weights: &[0, 0, -HALF, 0, 0, 0, -HALF, 0],
+        weights: &[0, 0, -HALF, 0, 0, 0, -HALF, 0, 0, 0, 0, 0],
         number: MOST,
         sums: [0, -1 << 67, 0],
     },
     Summed {
-        weights: &[0, 0, -HALF - 1, 0, 0, 0, -HALF, 0],
+        weights: &[0, 0, -HALF - 1, 0, 0, 0, -HALF, 0, 0, 0, 0, 0],
         number: 1,
         sums: [0, (-1 << 31) - 1, 0],
     },
@@ -271,7 +253,7 @@ fn sums_the_leaves_of_matching_pennies(rt: HostRuntime) -> Result<(), Fail> {
 // Leaves with the same sequences become one entry, in which their weights together have room.
 #[test]
 fn sums_leaves_of_the_same_sequences(rt: HostRuntime) -> Result<(), Fail> {
-    let other = first_other_sums(&rt, rt.alloc(), &PENNIES_AFTER_COIN, &SUMS_AFTER_COIN)?;
+    let other = first_other_sums(&rt, rt.alloc(), &THREE_DEALS, &SUMS_AFTER_DEALS)?;
     assert_eq!(rt; other, None);
     Ok(())
 }
