@@ -1,5 +1,5 @@
 //! The groups of player one's sequences, with the smallest entries that have room.
-ghost use Rattle.std.specs.Prelude.{◌≡◌, ◌*◌, ◌^◌, ◌<◌, ◌≤◌, max, All, IfOk, IsTrue, length, map};
+ghost use Rattle.std.specs.Prelude.{◌≡◌, ◌↔◌, ◌*◌, ◌^◌, ◌<◌, ◌≤◌, max, All, IfOk, IsTrue, length, map};
 ghost use Rattle.def_sums.specs.Limits.{most_root};
 ghost use Rattle.def_tree.specs.declared.Player.TheVariants.{One};
 ghost use Rattle.def_plan.specs.Form.{sequence_count};
@@ -116,6 +116,8 @@ impl LeafGroups {
         requires numbers { AreNumbersOf input.now.form.now input.now.one.now input.now.two.now }
         requires rows_one { length rows.old.one ≡ sequence_count input.now.form.now.sets_one }
         requires rows_two { length rows.old.two ≡ sequence_count input.now.form.now.sets_two }
+        ensures fits { let most = max (greatest_of input.now.one.now) (greatest_of input.now.two.now) in
+            IsTrue result ↔ self.now.mass * most < 2 ^ 63 }
         ensures sums { IsTrue result → ArePlainSums input.now.form.now input.now.one.now input.now.two.now rows.new }
         ensures count_one { length rows.new.one ≡ length rows.old.one }
         ensures count_two { length rows.new.two ≡ length rows.old.two }
@@ -149,14 +151,14 @@ fn grouped<E: GroupEntry>(alloc: Global, form: &SeqForm) -> Result<Grouped<E>, A
 fn sums_fit_word(mass: u64, one: &[u64], two: &[u64]) -> bool
     requires small_one { All (λ n. n ≤ most_root) one.now }
     requires small_two { All (λ n. n ≤ most_root) two.now }
-    ensures { IsTrue result → mass * max (greatest_of one.now) (greatest_of two.now) < 2 ^ 63 }
+    ensures { IsTrue result ↔ mass * max (greatest_of one.now) (greatest_of two.now) < 2 ^ 63 }
 {
     fits_word(mass, MOST_ROOT) || fits_word(mass, greatest_number(one, two))
 }
 
 // Whether a sum of products is within 64 bits, with its sign.
 fn fits_word(mass: u64, most: u64) -> bool
-    ensures { IsTrue result → mass * most < 2 ^ 63 }
+    ensures { IsTrue result ↔ mass * most < 2 ^ 63 }
 {
     (mass as u128) * (most as u128) < 1 << 63
 }

@@ -1,5 +1,5 @@
 //! Entries in fewer bytes.
-ghost use Rattle.std.specs.Prelude.{◌≡◌, All, FitsSigned, IfOk, IsTrue, map};
+ghost use Rattle.std.specs.Prelude.{◌≡◌, ◌↔◌, All, FitsSigned, IfOk, IsTrue, map};
 ghost use Rattle.std.specs.Int.{w32};
 ghost use Rattle.xg_jobs.specs.Entries.{leaves_of_group, small_leaf, tiny_leaf, wide_leaf};
 ghost use Rattle.xg_jobs.specs.Groups.{IsSmall, IsTiny};
@@ -42,7 +42,7 @@ impl MergedEntry for WideEntry {
 
 /// Whether each leaf has room in a tiny entry.
 pub(crate) fn are_tiny<E: GroupEntry>(entries: &[E]) -> bool
-    ensures { IsTrue result → All (λ e. IsTiny (E.leaf e)) entries.now }
+    ensures { IsTrue result ↔ All (λ e. IsTiny (E.leaf e)) entries.now }
 {
     for e in entries {
         if !is_tiny(e.other(), e.weight()) {
@@ -53,7 +53,7 @@ pub(crate) fn are_tiny<E: GroupEntry>(entries: &[E]) -> bool
 }
 
 fn is_tiny(other: u32, weight: i64) -> bool
-    ensures { IsTrue result → IsTiny (record { other = other; weight = weight }) }
+    ensures { IsTrue result ↔ IsTiny (record { other = other; weight = weight }) }
 {
     other < 1 << 16 && i16::try_from(weight).is_ok()
 }
@@ -75,7 +75,7 @@ pub(crate) fn tiny_entries<E: GroupEntry>(
 
 /// Whether each weight has room in a small entry.
 pub(crate) fn are_small(entries: &[WideEntry]) -> bool
-    ensures { IsTrue result → All (λ e. IsSmall (wide_leaf e)) entries.now }
+    ensures { IsTrue result ↔ All (λ e. IsSmall (wide_leaf e)) entries.now }
 {
     for e in entries {
         if !is_small(e.weight()) {
@@ -86,7 +86,7 @@ pub(crate) fn are_small(entries: &[WideEntry]) -> bool
 }
 
 fn is_small(weight: i64) -> bool
-    ensures { IsTrue result → FitsSigned w32 weight }
+    ensures { IsTrue result ↔ FitsSigned w32 weight }
 {
     i32::try_from(weight).is_ok()
 }

@@ -1,5 +1,5 @@
 //! The table of a game's jobs.
-ghost use Rattle.std.specs.Prelude.{◌≡◌, ◌-◌, ◌<◌, ◌≤◌, length, IfOk, IsTrue, OnErr, OnOk, Some, map, slice_get, slice_index_or};
+ghost use Rattle.std.specs.Prelude.{◌≡◌, ◌↔◌, ◌*◌, ◌-◌, ◌^◌, ◌<◌, ◌≤◌, length, max, IfOk, IsTrue, OnErr, OnOk, Some, map, slice_get, slice_index_or};
 ghost use Rattle.def_history.specs.Jobs.{most_jobs};
 ghost use Rattle.def_history.specs.Leaves.{amounts};
 ghost use Rattle.def_history.specs.Packets.{IsPacketOf};
@@ -9,6 +9,7 @@ ghost use Rattle.def_plan.specs.Form.{sequence_count};
 ghost use Rattle.def_plan.specs.FormRows.{row_count};
 ghost use Rattle.xg_jobs.specs.Rows.{AreNumbersOf, ArePlainSums};
 ghost use Rattle.xg_touched.specs.Touched.{job_rows};
+ghost use Rattle.xg_jobs.specs.Groups.{greatest_of};
 ghost use Rattle.xg_jobs.specs.Table.{HasLeavesOf, IsFormOf, IsTableOf, job_table, leaf_table, most_touched};
 
 use crate::cutting::ranges_of;
@@ -171,6 +172,8 @@ impl JobTable {
         requires table { HasLeavesOf input.now.form.now self.now }
         requires rows_one { length rows.old.one ≡ sequence_count input.now.form.now.sets_one }
         requires rows_two { length rows.old.two ≡ sequence_count input.now.form.now.sets_two }
+        ensures fits { let most = max (greatest_of input.now.one.now) (greatest_of input.now.two.now) in
+            IsTrue result ↔ self.now.mass * most < 2 ^ 63 }
         ensures sums { IsTrue result → ArePlainSums input.now.form.now input.now.one.now input.now.two.now rows.new }
         ensures count_one { length rows.new.one ≡ length rows.old.one }
         ensures count_two { length rows.new.two ≡ length rows.old.two }

@@ -1,8 +1,9 @@
-use Rattle.std.proofs.Common.{◌≡◌, ℕ, ◌≤◌, All, length, FitsSigned, to_z, of_z, ℤ, ap, subst, ◌∙◌, arith, rules}
+use Rattle.std.proofs.Common.{◌≡◌, ℕ, ◌≤◌, All, length, FitsSigned, to_z, of_z, ℤ, ap, refl, sym, subst, ◌∙◌, arith, rules}
 use Rattle.std.specs.Int.{w64}
+use Rattle.std.proofs.lemmas.Bool.{false≢true}
 use Rattle.std.proofs.lemmas.Int.{to_z-of_z}
 use Rattle.std.proofs.lemmas.List.{take_all}
-use Rattle.std.proofs.lemmas.List.Elements.{All-more}
+use Rattle.std.proofs.lemmas.List.Elements.{All-get_or, All-more}
 use Rattle.xg_jobs.specs.Groups.{GroupLeaf, IsTiny}
 use Rattle.xg_jobs.proofs.packing.are_tiny.Goals as goal
 
@@ -16,9 +17,23 @@ loop-e-preserved g c =
     let known : ℕ → ℤ → GroupLeaf = λ b w. record { other = b; weight = w } in
     let told_is = ap (λ b. known b (to_z w64 (of_z w64 c.weight.result))) c.other.ensures ∙ ap (known _) (w_is ∙ c.weight.ensures) in
     All-more (λ e. IsTiny (g.E.GroupEntry.leaf e)) entries i item c.loop-e-test.true c.loop-e.invariant
-    (subst (λ e. IsTiny (g.E.GroupEntry.leaf e)) c.e-item.is (subst IsTiny told_is (c.is_tiny.ensures c.if-not-is_tiny.false)))
+    (subst (λ e. IsTiny (g.E.GroupEntry.leaf e)) c.e-item.is (subst IsTiny told_is (c.is_tiny.ensures.0 c.if-not-is_tiny.false)))
+
+pub returns-then-not-is_tiny : goal.returns-then-not-is_tiny
+returns-then-not-is_tiny g c =
+    let entries = c.args.entries.now in
+    let i : ℕ = c.loop-e.e-index in
+    let item = c.e-item.result in
+    let fits_w : FitsSigned w64 c.weight.result = search rules in
+    let w_is : to_z w64 (of_z w64 c.weight.result) ≡ c.weight.result = to_z-of_z w64 c.weight.result fits_w in
+    let known : ℕ → ℤ → GroupLeaf = λ b w. record { other = b; weight = w } in
+    let told_is = ap (λ b. known b (to_z w64 (of_z w64 c.weight.result))) c.other.ensures ∙ ap (known _) (w_is ∙ c.weight.ensures) in (
+      λ none. absurd (false≢true none),
+      λ all. absurd (false≢true (c.if-not-is_tiny.ensures.1 (subst IsTiny (sym told_is) (subst (λ e. IsTiny (g.E.GroupEntry.leaf e)) (sym c.e-item.is)
+          (All-get_or (λ e. IsTiny (g.E.GroupEntry.leaf e)) entries i item c.loop-e-test.true all))))),
+    )
 
 pub returns : goal.returns
-returns g c = λ _.
+returns g c =
     let past : length c.args.entries.now ≤ c.loop-e.e-index = omega arith in
-    subst (All (λ e. IsTiny (g.E.GroupEntry.leaf e))) (take_all c.loop-e.e-index c.args.entries.now past) c.loop-e.invariant
+    (λ _. subst (All (λ e. IsTiny (g.E.GroupEntry.leaf e))) (take_all c.loop-e.e-index c.args.entries.now past) c.loop-e.invariant, λ _. refl)

@@ -13,7 +13,7 @@ write_small_rows-requires-clause-fits c =
     can_write (2 ^ 63) groups.starts.items c.deref.result.now (leaves_of_group groups.entries) (map tiny_leaf c.deref-in-Tiny.result.now) form x y groups.others groups.mass
     c.deref.ensures.value (ap (map tiny_leaf) c.deref-in-Tiny.ensures.value ∙ sym (ap leaves_of_group c.in-Tiny.is))
     (ap (λ (g : GroupedWeights). g.weights) c.self.view_is ∙ c.requires.groups) c.self.invariant c.facts.ensures.sequences
-    (c.sums_fit_word.ensures c.if-not-sums_fit_word.false)
+    (c.sums_fit_word.ensures.0 c.if-not-sums_fit_word.false)
 
 pub write_small_rows-requires-in-Small-clause-fits : goal.write_small_rows-requires-in-Small-clause-fits
 write_small_rows-requires-in-Small-clause-fits c =
@@ -24,7 +24,7 @@ write_small_rows-requires-in-Small-clause-fits c =
     can_write (2 ^ 63) groups.starts.items c.deref-in-Small.result.now (leaves_of_group groups.entries) (map small_leaf c.deref-in-Small-2.result.now) form x y groups.others groups.mass
     c.deref-in-Small.ensures.value (ap (map small_leaf) c.deref-in-Small-2.ensures.value ∙ sym (ap leaves_of_group c.in-Small.is))
     (ap (λ (g : GroupedWeights). g.weights) c.self.view_is ∙ c.requires.groups) c.self.invariant c.facts.ensures.sequences
-    (c.sums_fit_word.ensures c.if-not-sums_fit_word.false)
+    (c.sums_fit_word.ensures.0 c.if-not-sums_fit_word.false)
 
 pub write_small_rows-requires-in-Wide-clause-fits : goal.write_small_rows-requires-in-Wide-clause-fits
 write_small_rows-requires-in-Wide-clause-fits c =
@@ -35,4 +35,4 @@ write_small_rows-requires-in-Wide-clause-fits c =
     can_write (2 ^ 63) groups.starts.items c.deref-in-Wide.result.now (leaves_of_group groups.entries) (map wide_leaf c.deref-in-Wide-2.result.now) form x y groups.others groups.mass
     c.deref-in-Wide.ensures.value (ap (map wide_leaf) c.deref-in-Wide-2.ensures.value ∙ sym (ap leaves_of_group c.in-Wide.is))
     (ap (λ (g : GroupedWeights). g.weights) c.self.view_is ∙ c.requires.groups) c.self.invariant c.facts.ensures.sequences
-    (c.sums_fit_word.ensures c.if-not-sums_fit_word.false)
+    (c.sums_fit_word.ensures.0 c.if-not-sums_fit_word.false)
