@@ -1,9 +1,9 @@
 -- What opening a game gives.
-use Rattle.std.specs.Prelude.{◌≡◌, ℕ, ◌≤◌, Err}
+use Rattle.std.specs.Prelude.{◌≡◌, ℕ, ◌≤◌, Err, Ok}
 use Rattle.def_fraction.specs.Fraction.{Fraction, most}
 use Rattle.def_tree.specs.Tree.{Forest}
 use Rattle.def_game_paths.specs.Recall.{RecallBreak}
-use Rattle.def_sequence_form.specs.Sets.{sets_or_break}
+use Rattle.def_sequence_form.specs.Sets.{TreeSets, sets_or_break}
 use Rattle.def_file.specs.declared.FileFault.{FileFault}
 use Rattle.def_file.specs.declared.FileFault.TheVariants.{NotRecall}
 use Rattle.def_plan.specs.Form.{SequenceForm}
@@ -20,6 +20,10 @@ pub record KeepsNumbers (form : SequenceForm) (sum : Fraction) (unit mass : ℕ)
   pub some_unit : 1 ≤ unit
   pub small_unit : unit ≤ most
   pub whole_sum : IsWholeIn unit sum
+
+-- recall doesn't break, and these are the sets
+abbrev pub HasSets : Forest → Type 0
+HasSets tree = (sets : TreeSets) × (sets_or_break tree ≡ Ok sets)
 
 -- recall breaks there first, and the fault says so
 abbrev pub IsBreakOf : Forest → FileFault → Type 0

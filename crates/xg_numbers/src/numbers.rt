@@ -1,5 +1,5 @@
 //! The numbers of a game.
-ghost use Rattle.std.specs.Prelude.{◌≡◌, ◌≢◌, ◌≤◌, length, Err, IfOk, None, Ok, Some};
+ghost use Rattle.std.specs.Prelude.{◌≡◌, ◌≤◌, length, Err, IfOk, None, Ok, OnOk, Some};
 ghost use Rattle.def_file.specs.declared.FileFault.{FileFault};
 ghost use Rattle.def_fraction.specs.Fraction.{most};
 ghost use Rattle.def_game_numbers.specs.Numbers.{game_file_fault};
@@ -8,7 +8,7 @@ ghost use Rattle.def_plan.specs.Payoff.{mass_of};
 ghost use Rattle.def_sequence_form.specs.Form.{form_of};
 ghost use Rattle.def_sequence_form.specs.Sets.{sets_or_break};
 ghost use Rattle.def_tree.specs.Tree.{leaf_count, prefix};
-ghost use Rattle.xg_numbers.specs.Opened.{IsBreakOf};
+ghost use Rattle.xg_numbers.specs.Opened.{HasSets, IsBreakOf};
 ghost use Rattle.def_game_numbers.specs.Weighed.{weighed_game};
 
 use std::alloc::Global;
@@ -53,8 +53,7 @@ impl Numbers {
         // What is true of each game, by which the sum of an accepted one is whole.
         game.numbers_are_in_lowest_terms();
         let weights = weigh(alloc, game)?;
-        let sets = sets_of(alloc, game.tree())?;
-        let form = form_of(alloc, game.tree(), &weights, &sets)?;
+        let form = form_of(alloc, game.tree(), &weights)?;
         Ok(Numbers {
             form,
             nodes: game.tree().len(),
@@ -78,8 +77,7 @@ impl Numbers {
         let tree = game.into_tree();
         let weights = weighed?;
         let (sum, unit, mass) = (weights.sum(), weights.unit(), weights.mass());
-        let sets = sets_of(alloc, &tree)?;
-        let form = form_of(alloc, &tree, &weights, &sets)?;
+        let form = form_of(alloc, &tree, &weights)?;
         let nodes = tree.len();
         Ok(Numbers {
             form,
@@ -153,14 +151,15 @@ fn sets_of(alloc: Global, tree: &Tree) -> Result<Sets, Refused>
     }
 }
 
-/// The sequence form of a tree with these weights.
-fn form_of(alloc: Global, tree: &Tree, weights: &Weights, sets: &Sets) -> Result<SeqForm, Refused>
+/// The sequence form of a tree with these weights, where its players remember their choices.
+fn form_of(alloc: Global, tree: &Tree, weights: &Weights) -> Result<SeqForm, Refused>
     requires count { length weights.now.leaves ≡ leaf_count (prefix tree.now) }
-    requires sets { sets_or_break tree.now ≡ Ok sets.now }
     ensures form { IfOk result (λ form. form ≡ form_of tree.now weights.now.leaves) }
-    ensures accepted { (fault : FileFault) → result ≢ Err (Refused.File fault) }
+    ensures recalled { OnOk result (HasSets tree.now) }
+    ensures broken { (fault : FileFault) → result ≡ Err (Refused.File fault) → IsBreakOf tree.now fault }
 {
-    match SeqForm::build(alloc, tree, sets, weights.leaves()) {
+    let sets = sets_of(alloc, tree)?;
+    match SeqForm::build(alloc, tree, &sets, weights.leaves()) {
         Ok(form) => Ok(form),
         Err(_) => Err(Refused::NoMemory),
     }
