@@ -17,7 +17,6 @@ use xg_io::{Sink, WriteFault, write_all};
 use xg_tree::{Kind, Node, Player};
 
 /// The line of a node with this name.
-#[tactic(auto, using(crate::proofs::Written::first_piece, crate::proofs::Written::then_piece, crate::proofs::Written::first_part, crate::proofs::Written::then_part), unfolding(def_canon::specs::Canon::node_pieces))]
 pub(crate) fn put_node<O: Sink>(
     game: &Game,
     node: Node,
@@ -77,7 +76,6 @@ fn put_place<O: Sink>(game: &Game, kind: Kind, set: u32, out: &mut O) -> Result<
 }
 
 /// The whole description of a set.
-#[tactic(auto, using(crate::proofs::Written::first_piece, crate::proofs::Written::then_piece, crate::proofs::Written::first_part, crate::proofs::Written::then_part), unfolding(def_canon::specs::Canon::set_pieces))]
 fn put_set<O: Sink>(game: &Game, kind: Kind, set: u32, out: &mut O) -> Result<(), WriteFault>
     requires kind { kind ≢ Kind.Leaf }
     requires from_one { 1 ≤ set }
@@ -92,7 +90,6 @@ fn put_set<O: Sink>(game: &Game, kind: Kind, set: u32, out: &mut O) -> Result<()
 }
 
 /// The actions of a set in braces.
-#[tactic(auto, using(crate::proofs::Written::first_piece, crate::proofs::Written::then_piece, crate::proofs::Written::first_part, crate::proofs::Written::then_part), unfolding(def_canon::specs::Canon::list_pieces))]
 fn put_list<O: Sink>(game: &Game, kind: Kind, set: u32, out: &mut O) -> Result<(), WriteFault>
     requires kind { kind ≢ Kind.Leaf }
     requires from_one { 1 ≤ set }
@@ -122,7 +119,6 @@ fn put_actions<O: Sink>(game: &Game, kind: Kind, set: u32, out: &mut O) -> Resul
 }
 
 /// An action of a set.
-#[tactic(auto, using(crate::proofs::Written::first_piece, crate::proofs::Written::then_piece, crate::proofs::Actions::named_at), unfolding(def_canon::specs::Canon::action_pieces))]
 fn put_action<O: Sink>(
     game: &Game,
     kind: Kind,
@@ -185,7 +181,6 @@ fn put_outcome<O: Sink>(game: &Game, outcome: u32, out: &mut O) -> Result<(), Wr
 }
 
 /// The whole description of an outcome.
-#[tactic(auto, using(crate::proofs::Written::first_piece, crate::proofs::Written::then_piece, crate::proofs::Written::first_part, crate::proofs::Written::then_part), unfolding(def_canon::specs::Canon::described_outcome))]
 fn put_described<O: Sink>(game: &Game, outcome: u32, out: &mut O) -> Result<(), WriteFault>
     requires from_one { 1 ≤ outcome }
     requires there { outcome ≤ length game.now.outcomes }
@@ -203,7 +198,6 @@ fn put_described<O: Sink>(game: &Game, outcome: u32, out: &mut O) -> Result<(), 
 }
 
 /// The payoffs of an outcome in braces.
-#[tactic(auto, using(crate::proofs::Written::first_piece, crate::proofs::Written::then_piece), unfolding(def_canon::specs::Canon::payoffs_pieces))]
 fn put_payoffs<O: Sink>(one: Frac, two: Frac, out: &mut O) -> Result<(), WriteFault>
     ensures text { Writes (O.written out.old) (O.written out.new) (text_of_pieces (payoffs_pieces one two)) result }
     ensures cause { HasCause (O.faults out.old) (O.faults out.new) result }

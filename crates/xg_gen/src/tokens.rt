@@ -47,7 +47,6 @@ pub(crate) fn put_comma<O: Sink>(out: &mut O) -> Result<(), WriteFault>
 }
 
 /// A whole number.
-#[tactic(auto, using(crate::proofs::Written::first_token, crate::proofs::Written::then_token))]
 pub(crate) fn put_number<O: Sink>(n: u64, out: &mut O) -> Result<(), WriteFault>
     ensures text { Writes (O.written out.old) (O.written out.new) (text_of_pieces (whole_piece n ∷ [])) result }
     ensures cause { HasCause (O.faults out.old) (O.faults out.new) result }
@@ -57,7 +56,6 @@ pub(crate) fn put_number<O: Sink>(n: u64, out: &mut O) -> Result<(), WriteFault>
     write_all(out, buffer.format(n).as_bytes())
 }
 
-#[tactic(auto, using(crate::proofs::Written::first_token, crate::proofs::Written::then_token))]
 pub(crate) fn put_fraction<O: Sink>(f: Frac, out: &mut O) -> Result<(), WriteFault>
     ensures text { Writes (O.written out.old) (O.written out.new) (text_of_pieces (fraction f ∷ [])) result }
     ensures cause { HasCause (O.faults out.old) (O.faults out.new) result }
@@ -67,7 +65,6 @@ pub(crate) fn put_fraction<O: Sink>(f: Frac, out: &mut O) -> Result<(), WriteFau
 }
 
 /// A text behind one space.
-#[tactic(auto, using(crate::proofs::Written::first_token, crate::proofs::Written::then_token))]
 pub(crate) fn put_text<O: Sink>(bytes: &[u8], out: &mut O) -> Result<(), WriteFault>
     ensures text { Writes (O.written out.old) (O.written out.new) (text_of_pieces (text_piece bytes.now ∷ [])) result }
     ensures cause { HasCause (O.faults out.old) (O.faults out.new) result }
@@ -77,7 +74,6 @@ pub(crate) fn put_text<O: Sink>(bytes: &[u8], out: &mut O) -> Result<(), WriteFa
 }
 
 /// A text on a line of its own.
-#[tactic(auto, using(crate::proofs::Written::first_token, crate::proofs::Written::then_token))]
 pub(crate) fn put_text_line<O: Sink>(bytes: &[u8], out: &mut O) -> Result<(), WriteFault>
     ensures text { Writes (O.written out.old) (O.written out.new) (text_of_pieces (on_new_line Text (quoted bytes.now) ∷ [])) result }
     ensures cause { HasCause (O.faults out.old) (O.faults out.new) result }

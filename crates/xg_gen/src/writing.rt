@@ -23,7 +23,6 @@ pub fn write_game<O: Sink>(game: &Game, out: &mut O) -> Result<(), WriteFault>
     put_game(game, out)
 }
 
-#[tactic(auto, using(crate::proofs::Written::first_canon, crate::proofs::Written::then_feed))]
 fn put_game<O: Sink>(game: &Game, out: &mut O) -> Result<(), WriteFault>
     ensures text { Writes (O.written out.old) (O.written out.new) (canon game.now) result }
     ensures cause { HasCause (O.faults out.old) (O.faults out.new) result }
@@ -32,7 +31,6 @@ fn put_game<O: Sink>(game: &Game, out: &mut O) -> Result<(), WriteFault>
     write_all(out, b"\n")
 }
 
-#[tactic(auto, using(crate::proofs::Written::first_part, crate::proofs::Written::then_part), unfolding(def_canon::specs::Canon::game_pieces))]
 fn put_pieces<O: Sink>(game: &Game, out: &mut O) -> Result<(), WriteFault>
     ensures text { Writes (O.written out.old) (O.written out.new) (text_of_pieces (game_pieces game.now)) result }
     ensures cause { HasCause (O.faults out.old) (O.faults out.new) result }
@@ -42,7 +40,6 @@ fn put_pieces<O: Sink>(game: &Game, out: &mut O) -> Result<(), WriteFault>
 }
 
 /// The first two lines, but for the line feed behind them.
-#[tactic(auto, using(crate::proofs::Written::first_piece, crate::proofs::Written::then_piece, crate::proofs::Written::first_part, crate::proofs::Written::then_part), unfolding(def_canon::specs::Canon::prologue_pieces))]
 fn put_prologue<O: Sink>(game: &Game, out: &mut O) -> Result<(), WriteFault>
     ensures text { Writes (O.written out.old) (O.written out.new) (text_of_pieces (prologue_pieces game.now.prologue)) result }
     ensures cause { HasCause (O.faults out.old) (O.faults out.new) result }
