@@ -10,3 +10,4 @@ pub mod Closed
 pub mod OneAction
 pub mod SmallRegrets
 pub mod CutOneByOne
+pub mod Growing

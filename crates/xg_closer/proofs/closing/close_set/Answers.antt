@@ -7,6 +7,7 @@ use Rattle.def_plan.specs.Form.{PlacedSet}
 use Rattle.def_round.specs.Play.{regret_of}
 use Rattle.xg_closer.specs.Closing.{value_by}
 use Rattle.xg_seq.specs.Table.{placed_of_row}
+use Rattle.xg_closer.proofs.Growing.{read_back}
 use Rattle.xg_closer.proofs.OneAction.{nothing_grows, only_value}
 use Rattle.xg_closer.proofs.closing.close_set.Goals as goal
 
@@ -32,3 +33,28 @@ add_worth-requires-clause-fits g c =
     let worth_is : to_z w128 (of_z w128 c.worth_at-worth.result) ≡ value_by c.args.play.now (map g.W.Worth.amount c.args.worths.now) h =
     to_z-of_z w128 c.worth_at-worth.result fits ∙ c.worth_at-worth.ensures ∙ sym (only_value c.args.play.now (map g.W.Worth.amount c.args.worths.now) h (omega arith) c.requires.all_units) in
     subst (FitsSigned g.W.Worth.width) (sym worth_is) c.requires.fits
+
+pub add_regrets-requires-clause-growth : goal.add_regrets-requires-clause-growth
+add_regrets-requires-clause-growth g c = λ s from to.
+    let value_is = read_back c.value_of_set-value.result _ (search rules) c.value_of_set-value.ensures in
+    rw value_is (c.requires.growth s from to)
+
+pub add_regrets-requires-clause-growth_fits : goal.add_regrets-requires-clause-growth_fits
+add_regrets-requires-clause-growth_fits g c = λ s from to.
+    let value_is = read_back c.value_of_set-value.result _ (search rules) c.value_of_set-value.ensures in
+    rw value_is (c.requires.growth_fits s from to)
+
+pub add_regrets-requires-clause-room : goal.add_regrets-requires-clause-room
+add_regrets-requires-clause-room g c = λ s from to.
+    let value_is = read_back c.value_of_set-value.result _ (search rules) c.value_of_set-value.ensures in
+    rw value_is (c.requires.room s from to)
+
+pub returns-clause-of_set : goal.returns-clause-of_set
+returns-clause-of_set g c = λ s from to.
+    let value_is = read_back c.value_of_set-value.result _ (search rules) c.value_of_set-value.ensures in
+    rw value_is at (c.add_regrets.ensures.of_set s from to)
+
+pub returns-clause-worth_before : goal.returns-clause-worth_before
+returns-clause-worth_before g c =
+    let value_is = read_back c.value_of_set-value.result _ (search rules) c.value_of_set-value.ensures in
+    rw value_is at c.add_worth-2.ensures.here
