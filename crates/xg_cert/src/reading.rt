@@ -4,7 +4,7 @@ ghost use Rattle.def_tree.specs.Rules.{most_nodes};
 ghost use Rattle.def_cert_text.specs.Versions.{VersionedCertificate, VersionedFits, has_second};
 ghost use Rattle.def_cert_text.specs.declared.fault.CertFault as fault;
 ghost use Rattle.def_cert_text.specs.Formats.{where_asked};
-ghost use Rattle.def_cert_text.specs.CertText.{bounds_lines, plan_lines, reply_lines, second_line};
+ghost use Rattle.def_cert_text.specs.CertText.{bounds_lines, last_lines, plan_lines, reply_lines, second_line};
 ghost use Rattle.def_cert_text.specs.CertText.{versioned_certificate, versioned_in, versioned_text};
 ghost use Rattle.def_cert_text.specs.FirstFault.{FirstVersionedFault};
 ghost use Rattle.xg_cert.specs.declared.refused.CertRefused.TheVariants as refused;
@@ -73,14 +73,18 @@ fn whole_certificate(reader: &mut FieldReader<'_>, alloc: Global) -> Result<Cert
     let version = reader.version()?;
     let head = head_lines(reader, version)?;
     let bounds = bounds_where_asked(reader, alloc, &head)?;
-    let second = second_where_asked(reader, version, &head)?;
-    reader.word(b"end", b'\n')?;
-    Ok(CertLines {
-        version,
-        head,
-        bounds,
-        second,
-    })
+    match last_lines(reader, version, &head) {
+        Ok(second) => Ok(CertLines {
+            version,
+            head,
+            bounds,
+            second,
+        }),
+        Err(fault) => {
+            drop(bounds);
+            Err(CertRefused::Cert(fault))
+        }
+    }
 }
 
 /// All from the trace to the bracket, which is there where a round was asked.
@@ -100,6 +104,21 @@ fn bounds_where_asked(
     }
     let bounds = bounds_lines(reader, alloc, head)?;
     Ok(Some(bounds))
+}
+
+/// All below the bracket: that of player two's own payoff, where it is there, and the last line.
+fn last_lines(
+    reader: &mut FieldReader<'_>,
+    version: TextVersion,
+    head: &Head,
+) -> Result<Option<(Ratio, Ratio)>, CertFault>
+    ensures exact { GivesValue (λ second. (second_where_given second, tt)) result reader.new.left
+        ((last_lines version (head_of head.now)).read reader.old.total reader.old.left) }
+    ensures total { reader.new.total ≡ reader.old.total }
+{
+    let second = second_where_asked(reader, version, head)?;
+    reader.word(b"end", b'\n')?;
+    Ok(second)
 }
 
 /// The bracket of player two's own payoff, which is there in version 2 where a round was asked.
