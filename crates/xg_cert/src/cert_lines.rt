@@ -98,7 +98,6 @@ fn put_traced<O: Sink>(round: u32, total: i128, end: u8, out: &mut O) -> Result<
     put_signed(total, end, out)
 }
 
-#[tactic(auto, using(crate::proofs::Written::first_two, crate::proofs::Written::then_two, crate::proofs::Written::first_field, crate::proofs::Written::then_field, crate::proofs::Written::last_field))]
 pub(crate) fn put_value_line<O: Sink>(
     set: u32,
     value: i128,
@@ -114,7 +113,6 @@ pub(crate) fn put_value_line<O: Sink>(
 }
 
 /// A word, and both ends of a bracket.
-#[tactic(auto, using(crate::proofs::Written::first_field, crate::proofs::Written::then_field, crate::proofs::Written::last_field))]
 pub(crate) fn put_ends_line<O: Sink>(
     word: &[u8],
     low: Ratio,

@@ -52,7 +52,6 @@ fn put_parts<O: Sink>(version: TextVersion, head: &Head, out: &mut O) -> Result<
     }
 }
 
-#[tactic(auto, using(xg_io::proofs::Pieces::prefix_first, xg_io::proofs::Pieces::then_rest))]
 fn put_counts<O: Sink>(head: &Head, out: &mut O) -> Result<(), WriteFault>
     ensures text { Writes (O.written out.old) (O.written out.new) (counts_text (head_of head.now)) result }
     ensures cause { HasCause (O.faults out.old) (O.faults out.new) result }
@@ -72,7 +71,6 @@ fn put_units<O: Sink>(head: &Head, out: &mut O) -> Result<(), WriteFault>
 }
 
 /// The unit, the mass and the sum, which has a line of its own.
-#[tactic(auto, using(xg_io::proofs::Pieces::prefix_first, xg_io::proofs::Pieces::then_rest))]
 fn put_units_and_sum<O: Sink>(head: &Head, out: &mut O) -> Result<(), WriteFault>
     ensures text { Writes (O.written out.old) (O.written out.new) (units_text versions.Two (head_of head.now)) result }
     ensures cause { HasCause (O.faults out.old) (O.faults out.new) result }

@@ -31,7 +31,6 @@ use xg_io::{Sink, WriteFault};
 use xg_seq::SeqForm;
 
 /// A plan of the player that the digit names.
-#[tactic(auto, using(crate::proofs::Written::first_field, crate::proofs::Written::then_field, crate::proofs::Written::first_two, crate::proofs::Written::then_two))]
 fn put_plan<B: Bounds, O: Sink>(
     bounds: &B,
     player: Player,
@@ -49,7 +48,6 @@ fn put_plan<B: Bounds, O: Sink>(
 }
 
 /// A reply of the player that the digit names.
-#[tactic(auto, using(crate::proofs::Written::first_field, crate::proofs::Written::then_field, crate::proofs::Written::first_two, crate::proofs::Written::then_two))]
 fn put_reply<B: Bounds, O: Sink>(
     bounds: &B,
     player: Player,
@@ -98,7 +96,6 @@ fn put_end<B: Bounds, O: Sink>(
 }
 
 /// The trace, both ends and the bracket.
-#[tactic(auto, using(xg_io::proofs::Pieces::prefix_first, xg_io::proofs::Pieces::then_rest))]
 fn put_ends<B: Bounds, O: Sink>(bounds: &B, out: &mut O) -> Result<(), WriteFault>
     requires { B.can_write bounds.now }
     ensures text { Writes (O.written out.old) (O.written out.new) (ends_text (B.printed bounds.now)) result }
@@ -152,7 +149,7 @@ fn put_above<O: Sink>(first: FirstLine, head: &Head, out: &mut O) -> Result<(), 
     put_asked(head, out)
 }
 
-#[tactic(auto, using(xg_io::proofs::Pieces::prefix_first, xg_io::proofs::Pieces::then_rest))]
+#[tactic(auto, using(xg_io::proofs::Pieces::then_rest))]
 fn put_pieces<B: Bounds, O: Sink>(
     first: FirstLine,
     head: &Head,
