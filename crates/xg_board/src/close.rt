@@ -3,6 +3,7 @@ ghost use Rattle.std.specs.Prelude.{◌≡◌, ℕ, ◌<◌, ◌≤◌, ◌+◌,
 ghost use Rattle.std.specs.Prelude.{unsigned_abs, slice_index_or, slice_set, vec_len};
 ghost use Rattle.def_sums.specs.Limits.{most_row};
 ghost use Rattle.def_history.specs.Core.{Right};
+ghost use Rattle.def_history.specs.History.{replay};
 ghost use Rattle.def_history.specs.Packets.{place_count as places_in};
 ghost use Rattle.xg_jobs.specs.Rows.{all_rows};
 ghost use Rattle.xg_locked.specs.Rights.{job_count_of, seen, stripes_of};
@@ -121,11 +122,37 @@ fn add_totals<N: RowName>(rows: &mut Rows, stripe: &Stripe<N>)
     stripe.history_is_legal();
     let index = stripe.index();
     let stripes = stripe.stripes();
-    let places = place_count(rows.one().len() + rows.two().len(), index, stripes);
+    let places = place_count(row_count(rows), index, stripes);
     for place in 0..places {
-        let total = stripe.total(place);
-        add_at(rows, place * stripes + index, total);
+        add_total(rows, stripe, place);
     }
+}
+
+// Adds the total at a place of a stripe to its row.
+fn add_total<N: RowName>(rows: &mut Rows, stripe: &Stripe<N>, place: u32)
+    requires place { place < places_in stripe.now.stripes N.rows stripe.now.index }
+    requires count { length (all_rows rows.old) ≡ N.rows }
+    requires small { unsigned_abs (slice_index_or (all_rows rows.old) (place * stripe.now.stripes + stripe.now.index) (pos 0))
+        ≤ most_row }
+    ensures rows { all_rows rows.new ≡ slice_set (all_rows rows.old) (place * stripe.now.stripes + stripe.now.index)
+        (slice_index_or (all_rows rows.old) (place * stripe.now.stripes + stripe.now.index) (pos 0)
+        +ℤ replay N.amount stripe.now.order (place * stripe.now.stripes + stripe.now.index)) }
+    ensures one { length rows.new.one ≡ length rows.old.one }
+{
+    stripe.history_is_legal();
+    let index = stripe.index();
+    let stripes = stripe.stripes();
+    let row = place * stripes + index;
+    let total = stripe.total(place);
+    add_at(rows, row, total);
+}
+
+// How many rows there are.
+fn row_count(rows: &Rows) -> usize
+    requires { length (all_rows rows.now) < 2 ^ 32 }
+    ensures { result ≡ length (all_rows rows.now) }
+{
+    rows.one().len() + rows.two().len()
 }
 
 // How many of the rows lie in a stripe.

@@ -179,6 +179,37 @@ fn keep_pass<N: RowName>(passes: &mut Vec<Pass<N>>, worker: Worker<N>)
     passes.push_reserved(pass);
 }
 
+// Runs the workers of an open board until they are done, and answers their passes.
+fn run_crew<Rt: Threads + Wait + Sync, N: RowName + Send + Sync, G: Gate>(
+    rt: &Rt,
+    alloc: Global,
+    board: &RowBoard<N>,
+    purse: &mut Purse<N>,
+    input: &RowInput<'_>,
+    jobs: &JobTable,
+    workers: u32,
+    gate: &G,
+) -> Result<Vec<Pass<N>>, AllocError>
+    requires numbers { AreNumbersOf input.now.form.now input.now.one.now input.now.two.now }
+    requires table { IsTableOf input.now.form.now jobs.now }
+    requires jobs { length jobs.now.ranges ≡ N.jobs }
+    requires rows { row_count input.now.form.now ≡ N.rows }
+    requires amount { job_amounts input.now.form.now input.now.one.now input.now.two.now jobs.now.ranges ≡ N.amount }
+    requires purse { purse.old ≡ record { made = 0; number = number_from board.now.jobs board.now.stripes } }
+    requires workers { (1 ≤ workers) × (workers ≤ most_workers) }
+    ensures number { IfOk result (λ passes. purse.new.number ≡ number_from board.now.jobs board.now.stripes) }
+    ensures all { IfOk result (λ passes. length passes.items ≡ purse.new.made) }
+    ensures no_rights { IfOk result (λ passes. All (λ (p : Holding). p.rights ≡ []) passes.items) }
+    ensures one_spent { IfOk result (λ passes. tickets_of passes.items < purse.new.made) }
+{
+    // one pass at least has to find the bag empty, even if there were no job
+    let count = workers.min(jobs.count().max(1));
+    let passes = Vec::with_capacity(alloc, count as usize)?;
+    let mut crew = make_crew(alloc, board, purse, jobs.room(), count)?;
+    work_all(rt, board, input, jobs, &mut crew, gate);
+    Ok(passes_of(passes, crew))
+}
+
 // Runs the workers of a named board.
 fn run_named<Rt: Threads + Wait + Sync, N: RowName + Send + Sync, G: Gate>(
     rt: &Rt,
@@ -199,13 +230,14 @@ fn run_named<Rt: Threads + Wait + Sync, N: RowName + Send + Sync, G: Gate>(
     ensures { IfOk result (λ rows. ArePlainSums input.now.form.now input.now.one.now input.now.two.now rows) }
 {
     let (board, mut purse) = RowBoard::<N>::open(alloc, base, input.form, jobs)?;
-    // one pass at least has to find the bag empty, even if there were no job
-    let count = workers.min(jobs.count().max(1));
-    let passes = Vec::with_capacity(alloc, count as usize)?;
-    let mut crew = make_crew(alloc, &board, &mut purse, jobs.room(), count)?;
-    work_all(rt, &board, input, jobs, &mut crew, gate);
-    let passes = passes_of(passes, crew);
-    Ok(board.close(rt, purse, passes))
+    match run_crew(rt, alloc, &board, &mut purse, input, jobs, workers, gate) {
+        Ok(passes) => Ok(board.close(rt, purse, passes)),
+        Err(error) => {
+            drop(board);
+            drop(purse);
+            Err(error)
+        }
+    }
 }
 
 /// The plain sums over all leaves at each row, by at most so many workers in threads and by as many stripes.
