@@ -52,15 +52,16 @@ impl<N: RowName> WordBoard<N> {
             ≡ record { table = opened.0.table.shared.table_id; numbers = []; made = 0; unjoined = 0 }) }
     {
         let rows = Rows::new(alloc, form)?;
-        let count = form.sequence_count(Player::One) + form.sequence_count(Player::Two);
-        let zeros = vec![in alloc; 0u64; 2 * count as usize + 1]?;
-        let (table, seat) = open::<N>(alloc, &zeros)?;
+        let one = form.sequence_count(Player::One);
+        let two = form.sequence_count(Player::Two);
+        let count = one + two;
+        let (table, owner) = open_words::<N>(alloc, count)?;
         let board = WordBoard {
             table,
             rows,
             counts: Counts::of(jobs.count(), count),
         };
-        Ok((board, Owner::of(seat)))
+        Ok((board, owner))
     }
 
     /// Makes a worker, which has claimed nothing.
@@ -176,4 +177,17 @@ impl<N: RowName> WordBoard<N> {
             add::<N>(&self.table.shared, &mut worker.seat, row, amount);
         }
     }
+}
+
+// A table whose words are all 0, with its owner.
+fn open_words<N: RowName>(alloc: Global, rows: u32) -> Result<(WordTable<N>, Owner<N>), AllocError>
+    requires { rows ≡ N.rows }
+    ensures table { IfOk result
+        (λ opened. (opened.0.shared.table_id.words ≡ 2 * N.rows + 1) × (opened.0.shared.table_id.slots ≡ 0)) }
+    ensures owner { IfOk result
+        (λ opened. opened.1 ≡ record { table = opened.0.shared.table_id; numbers = []; made = 0; unjoined = 0 }) }
+{
+    let zeros = vec![in alloc; 0u64; 2 * rows as usize + 1]?;
+    let (table, seat) = open::<N>(alloc, &zeros)?;
+    Ok((table, Owner::of(seat)))
 }
