@@ -158,7 +158,7 @@ impl Engine {
         // It can be written as a certificate.
         ensures writable { OnOk result (IfSome self.new.outcome (IsOutcomeOf self.old.game.form)) }
     {
-        self.last_run = None;
+        leave(&mut self.last_run, None);
         note_rows(alloc, self.numbers.form(), maker, &mut self.jobs)?;
         let head = head_with(&self.numbers, settings);
         let source = RowSource {
@@ -169,7 +169,7 @@ impl Engine {
             maker,
         };
         let finished = play(&source, variant, settings, head)?;
-        self.last_run = Some(finished);
+        leave(&mut self.last_run, Some(finished));
         Ok(())
     }
 
@@ -208,6 +208,13 @@ impl Engine {
             None => None,
         }
     }
+}
+
+// Leaves this in place of what an earlier run left.
+fn leave(last_run: &mut Option<FinishedRun>, left: Option<FinishedRun>)
+    ensures { last_run.new ≡ left }
+{
+    *last_run = left;
 }
 
 // Notes the rows of the jobs where the maker makes packets.

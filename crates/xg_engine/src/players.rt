@@ -132,9 +132,9 @@ impl Players {
             → IfOk result (λ players. StandAfter variant form.now scale 0 players) }
     {
         Ok(Players {
+            rows: SmallRows::new(alloc, form)?,
             one: Learner::new(alloc, form, Player::One)?,
             two: Learner::new(alloc, form, Player::Two)?,
-            rows: SmallRows::new(alloc, form)?,
         })
     }
 
