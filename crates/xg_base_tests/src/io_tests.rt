@@ -140,24 +140,37 @@ fn a_sink_in_memory_goes_on_after_a_fault(rt: HostRuntime) -> Result<(), Fail> {
     Ok(())
 }
 
+/// Whether a file of this name that the system writes is read as what was written, and refused where it is too long. The
+/// file is gone after it.
+fn reads_back(rt: &HostRuntime, name: &str) -> Result<bool, Fail> {
+    let content = vec![in rt.alloc(); 7u8; 200_000]?;
+    fs::write(rt, name, content.as_slice())?;
+    let mut files = RealFiles::new(rt);
+    let is_read = holds(rt.alloc(), &mut files, name, 200_000, content.as_slice())
+        && refuses(rt.alloc(), &mut files, name, 199_999, ReadAllFault::TooLong);
+    fs::remove_file(rt, name)?;
+    Ok(is_read)
+}
+
+/// Whether the system has no such file to read.
+fn has_none(rt: &HostRuntime, name: &str) -> bool {
+    let mut files = RealFiles::new(rt);
+    refuses(
+        rt.alloc(),
+        &mut files,
+        name,
+        200_000,
+        ReadAllFault::ReadFault,
+    )
+}
+
 #[test]
 fn the_systems_files_are_read(rt: HostRuntime) -> Result<(), Fail> {
     let mut path = env::temp_dir(&rt)?;
     path.push("xg_io_the_systems_files_are_read")?;
     let name = path.as_path().to_str().ok_or("a path in UTF-8")?;
-    let alloc = rt.alloc();
-    let content = vec![in alloc; 7u8; 200_000]?;
-    fs::write(&rt, name, content.as_slice())?;
-
-    let mut files = RealFiles::new(&rt);
-    let is_read = holds(alloc, &mut files, name, 200_000, content.as_slice())
-        && refuses(alloc, &mut files, name, 199_999, ReadAllFault::TooLong);
-    fs::remove_file(&rt, name)?;
-    assert!(rt;
-        is_read
-            && refuses(alloc, &mut files, name, 200_000, ReadAllFault::ReadFault)
-            && refuses(alloc, &mut files, "/", 200_000, ReadAllFault::ReadFault)
-    );
+    let is_read = reads_back(&rt, name)?;
+    assert!(rt; is_read && has_none(&rt, name) && has_none(&rt, "/"));
     Ok(())
 }
 
