@@ -1,5 +1,5 @@
 pub mod Rising
 pub mod Adding
 pub mod Histories
-pub mod Amounts
+pub mod Changing
 pub mod Chaining

@@ -1,9 +1,11 @@
 -- Rows and amounts as entries, and entries that rise.
-use Rattle.std.proofs.Common.{◌≡◌, ℕ, zero, suc, ◌<◌, List, [], ◌∷◌, ◌++◌, length, refl, sym, ap, arith}
+use Rattle.std.proofs.Common.{◌≡◌, ℕ, zero, suc, ◌<◌, List, [], ◌∷◌, ◌++◌, length, replicate, refl, sym, ap, arith}
+use Rattle.std.specs.List.Sorted.{IsStrictlyIncreasing}
+use Rattle.std.proofs.lemmas.List.Kept.{AllPairs-from_increasing}
 use Rattle.std.specs.Prelude.{ℤ, pos, All, Option, Some, unwrap_or, slice_index, slice_index_or}
 use Rattle.std.proofs.lemmas.List.Elements.{All-nil, All-cons}
 use Rattle.def_history.specs.Packets.{RowAmount, AreRising}
-use Rattle.xg_rowcore.specs.Packets.{entries_of_rows, entry_in, IsAboveLast}
+use Rattle.xg_rowcore.specs.Packets.{entries_of_rows, entry_in, IsAboveLast, zeros_at}
 
 -- as many entries as rows
 pub length-entries_from : (rows : List ℕ) (amounts : List ℤ) → length rows ≡ length amounts
@@ -67,3 +69,25 @@ pub same_element : {A : Type 0} (xs : List A) (k : ℕ) (d e : A) → k < length
 same_element [] k d e below = absurd (omega arith)
 same_element (x ∷ xs) zero d e below = refl
 same_element (x ∷ xs) (suc k) d e below = same_element xs k d e (omega arith)
+
+above_zeros : (row : ℕ) (rows : List ℕ) → ((j : ℕ) → j < length rows → row < slice_index rows j)
+    → All (λ later. row < later.row) (zeros_at rows)
+above_zeros row [] below = All-nil (λ (later : RowAmount). row < later.row)
+above_zeros row (next ∷ rows) below =
+    All-cons (λ (later : RowAmount). row < later.row) (record { row = next; amount = pos 0 }) (zeros_at rows) (below 0 (omega arith))
+    (above_zeros row rows (λ j inside. below (suc j) (omega arith)))
+
+zeros_rise : (rows : List ℕ) → ((i j : ℕ) → i < j → j < length rows → slice_index rows i < slice_index rows j)
+    → AreRising (zeros_at rows)
+zeros_rise [] up = tt
+zeros_rise (row ∷ rows) up =
+    (above_zeros row rows (λ j inside. up 0 (suc j) (omega arith) (omega arith)), zeros_rise rows (λ i j less inside. up (suc i) (suc j) (omega arith) (omega arith)))
+
+-- rising rows with no amounts yet
+pub rising_zeros : (rows : List ℕ) → IsStrictlyIncreasing rows → AreRising (zeros_at rows)
+rising_zeros rows up = zeros_rise rows (λ i j less inside. AllPairs-from_increasing rows up i j 0 less inside)
+
+-- rows with as many zeros
+pub entries_of_zeros : (rows : List ℕ) → entries_of_rows rows (replicate (length rows) (pos 0)) ≡ zeros_at rows
+entries_of_zeros [] = refl
+entries_of_zeros (row ∷ rows) = ap (λ rest. record { row = row; amount = pos 0 } ∷ rest) (entries_of_zeros rows)

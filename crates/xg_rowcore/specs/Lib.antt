@@ -1,3 +1,4 @@
+pub mod Amounts
 pub mod Chains
 pub mod Names
 pub mod Packets

@@ -1,5 +1,5 @@
 -- What a name has where there is no job.
-use Rattle.std.specs.Prelude.{ℕ, ◌<◌, ◌≤◌, ℤ, pos, [], unsigned_abs}
+use Rattle.std.specs.Prelude.{ℕ, ◌<◌, ◌≤◌, pos, [], unsigned_abs}
 use Rattle.std.proofs.Common.{arith}
 use Rattle.atomic_table.specs.Seated.{TableId}
 use Rattle.def_sums.specs.Limits.{most_row}

@@ -1,5 +1,5 @@
 -- The entries of a packet.
-use Rattle.std.specs.Prelude.{ℕ, ◌<◌, ℤ, pos, ◌+ℤ◌, List, [], ◌∷◌, None, slice_index_or, slice_set}
+use Rattle.std.specs.Prelude.{ℕ, ◌<◌, ℤ, pos, ◌+ℤ◌, List, [], ◌∷◌, None, map, slice_index_or, slice_set}
 use Rattle.std.specs.List.{last_or}
 use Rattle.std.specs.Option.{ForSome}
 use Rattle.def_history.specs.Packets.{RowAmount}
@@ -28,3 +28,11 @@ abbrev pub with_added : List RowAmount → ℕ → ℤ → List RowAmount
 with_added entries i more =
     let entry : RowAmount = entry_in entries i in
     slice_set entries i (record { row = entry.row; amount = entry.amount +ℤ more })
+
+-- the entries with another amount at one place
+abbrev pub with_amount : List RowAmount → ℕ → ℤ → List RowAmount
+with_amount entries i amount = slice_set entries i (record { row = (entry_in entries i).row; amount = amount })
+
+-- each row with the amount 0
+abbrev pub zeros_at : List ℕ → List RowAmount
+zeros_at rows = map (λ row. record { row = row; amount = pos 0 }) rows

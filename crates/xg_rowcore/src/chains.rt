@@ -1,5 +1,5 @@
 //! Chains through the rows of each stripe.
-ghost use Rattle.std.specs.Prelude.{◌≡◌, ◌<◌, ◌≤◌, ℕ, [], length, slice_index, IfOk};
+ghost use Rattle.std.specs.Prelude.{◌≡◌, ◌<◌, ◌≤◌, ◌^◌, ℕ, [], length, slice_index, IfOk};
 ghost use Rattle.xg_rowcore.specs.Chains.{AreChains, IsNextOf, KeepsChains};
 
 use crate::places::stripe_of;
@@ -12,9 +12,9 @@ pub(crate) struct Chains {
     /// How many stripes there are, or 0 where the chains are of no rows.
     pub(crate) stripes: u32,
     /// For each stripe the place of its first row.
-    pub(crate) first: Vec<usize>,
+    pub(crate) first: Vec<u32>,
     /// After each place the next of the same stripe.
-    pub(crate) next: Vec<usize>,
+    pub(crate) next: Vec<u32>,
 }
 
 impl Chains {
@@ -22,8 +22,8 @@ impl Chains {
     pub(crate) fn new(alloc: Global, room: usize) -> Result<Chains, AllocError>
         ensures { IfOk result (λ c. KeepsChains [] room c.stripes c.first.items c.next.items) }
     {
-        let first = vec![in alloc; 0usize; MOST_STRIPES as usize]?;
-        let next = vec![in alloc; 0usize; room]?;
+        let first = vec![in alloc; 0u32; MOST_STRIPES as usize]?;
+        let next = vec![in alloc; 0u32; room]?;
         Ok(Chains {
             stripes: 0,
             first,
@@ -35,28 +35,56 @@ impl Chains {
     pub(crate) fn link(&mut self, rows: &[u32], stripes: u32)
         requires stripes { (1 ≤ stripes) × (stripes ≤ length self.old.first.items) }
         requires room { length rows.now ≤ length self.old.next.items }
+        requires few { length rows.now < 2 ^ 32 }
         ensures linked { AreChains 0 stripes rows.now self.new.first.items self.new.next.items }
         ensures stripes { self.new.stripes ≡ stripes }
         ensures first { length self.new.first.items ≡ length self.old.first.items }
         ensures next { length self.new.next.items ≡ length self.old.next.items }
     {
         self.stripes = stripes;
-        self.first.fill(rows.len());
+        self.first.fill(rows.len() as u32);
         link_places(rows, stripes, &mut self.first, &mut self.next);
+    }
+
+    /// Takes the chains of others, which are through no more places.
+    pub(crate) fn copy(&mut self, others: &Chains)
+        requires first { length others.now.first.items ≡ length self.old.first.items }
+        requires room { length others.now.next.items ≤ length self.old.next.items }
+        ensures stripes { self.new.stripes ≡ others.now.stripes }
+        ensures first { self.new.first.items ≡ others.now.first.items }
+        ensures next { (i : ℕ) → i < length others.now.next.items
+            → slice_index self.new.next.items i ≡ slice_index others.now.next.items i }
+        ensures count { length self.new.next.items ≡ length self.old.next.items }
+    {
+        self.stripes = others.stripes;
+        self.first.copy_from_slice(&others.first);
+        copy_front(&others.next, &mut self.next);
+    }
+}
+
+// Copies places over the first ones.
+fn copy_front(from: &[u32], into: &mut [u32])
+    requires { length from.now ≤ length into.old }
+    ensures front { (i : ℕ) → i < length from.now → slice_index into.new i ≡ slice_index from.now i }
+    ensures count { length into.new ≡ length into.old }
+{
+    for i in 0..from.len() {
+        into[i] = from[i];
     }
 }
 
 // Goes from the last row to the first, where each stripe's chain begins at the number of rows.
-fn link_places(rows: &[u32], stripes: u32, first: &mut [usize], next: &mut [usize])
+fn link_places(rows: &[u32], stripes: u32, first: &mut [u32], next: &mut [u32])
     requires stripes { (1 ≤ stripes) × (stripes ≤ length first.old) }
     requires room { length rows.now ≤ length next.old }
+    requires few { length rows.now < 2 ^ 32 }
     requires none { (stripe : ℕ) → stripe < stripes → slice_index first.old stripe ≡ length rows.now }
     ensures { AreChains 0 stripes rows.now first.new next.new }
 {
     for i in (0..rows.len()).rev() {
         let stripe = stripe_of(rows[i], stripes) as usize;
         next[i] = first[stripe];
-        first[stripe] = i;
+        first[stripe] = i as u32;
     }
 }
 

@@ -5,9 +5,11 @@ ghost use Rattle.def_sums.specs.Limits.{most_stripes};
 ghost use Rattle.def_history.specs.History.{stripe_of};
 ghost use Rattle.def_history.specs.Packets.{AreRising};
 ghost use Rattle.xg_rowcore.specs.Chains.{IsNextOf, rows_of_entries};
-ghost use Rattle.xg_rowcore.specs.Packets.{IsAboveLast, entry_in, with_added};
+ghost use Rattle.xg_rowcore.specs.Packets.{IsAboveLast, entry_in, with_added, with_amount, zeros_at};
 
+use crate::amounts::{Amounts, plus};
 use crate::chains::{Chains, seek};
+use crate::linked::LinkedRows;
 use crate::places::stripe_of;
 use std::alloc::{AllocError, Global};
 use std::marker::Model;
@@ -17,7 +19,7 @@ use std::marker::Model;
 #[derive(Drop)]
 pub(crate) struct RowEntries {
     rows: Vec<u32>,
-    amounts: Vec<i128>,
+    amounts: Amounts,
     room: usize,
     chains: Chains,
 }
@@ -30,11 +32,11 @@ impl Model for RowEntries {
 
     ghost Value = { Listed };
 
-    ghost view = { λ e. record { list = entries_of_rows e.rows.items e.amounts.items; room = e.room } };
+    ghost view = { λ e. record { list = entries_of_rows e.rows.items e.amounts.list; room = e.room } };
 
-    ghost invariant = { λ e. (length e.rows.items ≡ length e.amounts.items)
-        × AreRising (entries_of_rows e.rows.items e.amounts.items)
-        × (e.room ≤ vec_capacity e.rows) × (e.room ≤ vec_capacity e.amounts) × (length e.rows.items ≤ e.room)
+    ghost invariant = { λ e. (length e.rows.items ≡ length e.amounts.list)
+        × AreRising (entries_of_rows e.rows.items e.amounts.list)
+        × (e.room ≤ vec_capacity e.rows) × (e.room ≤ e.amounts.room) × (length e.rows.items ≤ e.room)
         × KeepsChains e.rows.items e.room e.chains.stripes e.chains.first.items e.chains.next.items };
 }
 
@@ -43,7 +45,7 @@ impl RowEntries {
         ensures { IfOk result (λ entries. entries ≡ record { list = []; room = room }) }
     {
         let rows = Vec::with_capacity(alloc, room)?;
-        let amounts = Vec::with_capacity(alloc, room)?;
+        let amounts = Amounts::new(alloc, room)?;
         let chains = Chains::new(alloc, room)?;
         Ok(RowEntries {
             rows,
@@ -70,14 +72,14 @@ impl RowEntries {
         ensures row { result.0 ≡ (entry_in self.now.list i).row }
         ensures amount { result.1 ≡ (entry_in self.now.list i).amount }
     {
-        (self.rows[i], self.amounts[i])
+        (self.rows[i], self.amounts.get(i))
     }
 
     pub(crate) fn clear(&mut self)
         ensures { self.new ≡ record { list = []; room = self.old.room } }
     {
         self.rows.clear();
-        self.amounts.clear();
+        self.amounts.reset(0);
         self.chains.stripes = 0;
     }
 
@@ -90,7 +92,7 @@ impl RowEntries {
         } }
     {
         self.rows.push_reserved(row);
-        self.amounts.push_reserved(amount);
+        self.amounts.push(amount);
         self.chains.stripes = 0;
     }
 
@@ -99,14 +101,33 @@ impl RowEntries {
         requires fits { unsigned_abs ((entry_in self.old.list i).amount +ℤ more) < 2 ^ 127 }
         ensures { self.new ≡ record { list = with_added self.old.list i more; room = self.old.room } }
     {
-        add_at(&mut self.amounts, i, more);
+        let (_row, amount) = self.entry(i);
+        self.put(i, plus(amount, more));
+    }
+
+    /// Takes these rows with their chains, each with the amount 0.
+    pub(crate) fn take_rows(&mut self, rows: &LinkedRows)
+        requires { length rows.now ≤ self.old.room }
+        ensures { self.new ≡ record { list = zeros_at rows.now; room = self.old.room } }
+    {
+        rows.copy_to(&mut self.rows, &mut self.chains);
+        self.amounts.reset(self.rows.len());
+    }
+
+    pub(crate) fn put(&mut self, i: usize, amount: i128)
+        requires { i < length self.old.list }
+        ensures { self.new ≡ record { list = with_amount self.old.list i amount; room = self.old.room } }
+    {
+        self.amounts.put(i, amount);
     }
 
     pub(crate) fn group(&mut self, stripes: u32)
         requires { (1 ≤ stripes) × (stripes ≤ most_stripes) }
         ensures { self.new ≡ self.old }
     {
-        self.chains.link(&self.rows, stripes);
+        if self.chains.stripes != stripes && self.rows.len() <= u32::MAX as usize {
+            self.chains.link(&self.rows, stripes);
+        }
     }
 
     /// The first place whose row lies in the stripe.
@@ -115,7 +136,7 @@ impl RowEntries {
         ensures { IsNextOf stripes stripe (rows_of_entries self.now.list) 0 result }
     {
         if self.chains.stripes == stripes {
-            self.chains.first[stripe as usize]
+            self.chains.first[stripe as usize] as usize
         } else {
             seek(&self.rows, stripes, stripe, 0)
         }
@@ -129,7 +150,7 @@ impl RowEntries {
             result }
     {
         if self.chains.stripes == stripes {
-            self.chains.next[i]
+            self.chains.next[i] as usize
         } else {
             seek(&self.rows, stripes, stripe_of(self.rows[i], stripes), i + 1)
         }
@@ -141,15 +162,4 @@ impl RowEntries {
     {
         let _room = self.room;
     }
-}
-
-// Adds to one amount.
-fn add_at(amounts: &mut Vec<i128>, i: usize, more: i128)
-    requires there { i < length amounts.old.items }
-    requires fits { unsigned_abs (slice_index_or amounts.old.items i (pos 0) +ℤ more) < 2 ^ 127 }
-    ensures items { amounts.new.items ≡ slice_set amounts.old.items i
-        (slice_index_or amounts.old.items i (pos 0) +ℤ more) }
-    ensures room { vec_capacity amounts.new ≡ vec_capacity amounts.old }
-{
-    amounts[i] += more;
 }

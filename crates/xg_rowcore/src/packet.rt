@@ -4,9 +4,10 @@ ghost use Rattle.def_sums.specs.Limits.{most_stripes};
 ghost use Rattle.def_history.specs.History.{stripe_of};
 ghost use Rattle.def_history.specs.Packets.{AreRising};
 ghost use Rattle.xg_rowcore.specs.Chains.{IsNextOf, rows_of_entries};
-ghost use Rattle.xg_rowcore.specs.Packets.{IsAboveLast, entry_in, with_added};
+ghost use Rattle.xg_rowcore.specs.Packets.{IsAboveLast, entry_in, with_added, with_amount, zeros_at};
 
 use crate::entries::RowEntries;
+use crate::linked::LinkedRows;
 use std::alloc::{AllocError, Global};
 
 /// What one job adds: rows in rising order, each with an amount.
@@ -60,6 +61,28 @@ impl Packet {
     {
         self.job = job;
         self.entries.clear();
+    }
+
+    /// The rows of another job with their chains, each with the amount 0.
+    pub fn start_with(&mut self, job: u32, rows: &LinkedRows)
+        requires room { length rows.now ≤ self.old.entries.room }
+        ensures job { self.new.job ≡ job }
+        ensures entries { self.new.entries ≡ record { list = zeros_at rows.now; room = self.old.entries.room } }
+    {
+        self.job = job;
+        self.entries.take_rows(rows);
+    }
+
+    /// Puts another amount at a place, from 0 on.
+    pub fn put(&mut self, i: usize, amount: i128)
+        requires there { i < length self.old.entries.list }
+        ensures job { self.new.job ≡ self.old.job }
+        ensures entries { self.new.entries ≡ record {
+          list = with_amount self.old.entries.list i amount;
+          room = self.old.entries.room;
+        } }
+    {
+        self.entries.put(i, amount);
     }
 
     /// Puts a row last, with its amount.

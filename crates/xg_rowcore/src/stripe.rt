@@ -6,6 +6,7 @@ ghost use Rattle.def_history.specs.History.{IsLegal, place_of, replay, stripe_of
 ghost use Rattle.def_history.specs.Packets.{IsPacketOf, place_count};
 ghost use Rattle.xg_rowcore.specs.Stripes.{AreTotals, HasGrown, with_job};
 
+use crate::amounts::Amounts;
 use crate::name::RowName;
 use crate::packet::Packet;
 use crate::places::place_of;
@@ -21,7 +22,7 @@ pub struct Stripe<N: RowName> {
     index: u32,
     stripes: u32,
     order: Vec<u32>,
-    totals: Vec<i128>,
+    totals: Amounts,
     name: PhantomData<N>,
 }
 
@@ -35,7 +36,7 @@ impl<N: RowName> Model for Stripe<N> {
     ghost view = { λ s. record { index = s.index; stripes = s.stripes; order = s.order.items } };
 
     ghost invariant = { λ s. (s.index < s.stripes) × IsLegal N.jobs s.order.items
-        × AreTotals N.rows N.amount s.index s.stripes s.order.items s.totals.items
+        × AreTotals N.rows N.amount s.index s.stripes s.order.items s.totals.list
         × (N.jobs ≤ vec_capacity s.order) × (N.jobs < 2 ^ 32) × (N.rows < 2 ^ 32) };
 }
 
@@ -55,7 +56,8 @@ impl<N: RowName> Stripe<N> {
     {
         let order = Vec::with_capacity(alloc, jobs as usize)?;
         let count = (rows as usize + stripes as usize - 1 - index as usize) / stripes as usize;
-        let totals = vec![in alloc; 0i128; count]?;
+        let mut totals = Amounts::new(alloc, count)?;
+        totals.reset(count);
         Ok(Stripe {
             index,
             stripes,
@@ -116,7 +118,7 @@ impl<N: RowName> Stripe<N> {
         ensures replayed { result ≡ replay N.amount self.now.order (place * self.now.stripes + self.now.index) }
         ensures small { unsigned_abs result ≤ most_row }
     {
-        self.totals[place as usize]
+        self.totals.get(place as usize)
     }
 
     /// What the type keeps of its history, and that the numbers of jobs and rows have 32 bits.
@@ -132,19 +134,19 @@ impl<N: RowName> Stripe<N> {
 
 // Adds the packet's rows that lie in the stripe.
 fn add_rows<N: RowName>(
-    totals: &mut Vec<i128>,
+    totals: &mut Amounts,
     index: u32,
     stripes: u32,
     packet: &Packet,
     _name: &PhantomData<N>,
 )
     requires index { index < stripes }
-    requires length { length totals.old.items ≡ place_count stripes N.rows index }
+    requires length { length totals.old.list ≡ place_count stripes N.rows index }
     requires job { packet.now.job < N.jobs }
     requires packet { IsPacketOf N.amount N.rows packet.now.job packet.now.entries.list }
-    requires small { (place : ℕ) → place < length totals.old.items
-        → unsigned_abs (slice_index_or totals.old.items place (pos 0)) ≤ most_row }
-    ensures { HasGrown packet.now.entries.list index stripes totals.old.items totals.new.items }
+    requires small { (place : ℕ) → place < length totals.old.list
+        → unsigned_abs (slice_index_or totals.old.list place (pos 0)) ≤ most_row }
+    ensures { HasGrown packet.now.entries.list index stripes totals.old.list totals.new.list }
 {
     let mut i = packet.first_of(stripes, index);
     while i < packet.len() {
@@ -155,23 +157,13 @@ fn add_rows<N: RowName>(
 }
 
 // Adds the amount of one row of the stripe.
-fn add_entry(totals: &mut Vec<i128>, stripes: u32, row: u32, amount: i128)
+fn add_entry(totals: &mut Amounts, stripes: u32, row: u32, amount: i128)
     requires stripes { 0 < stripes }
-    requires there { place_of stripes row < length totals.old.items }
-    requires small { unsigned_abs (slice_index_or totals.old.items (place_of stripes row) (pos 0)) + unsigned_abs amount
+    requires there { place_of stripes row < length totals.old.list }
+    requires small { unsigned_abs (slice_index_or totals.old.list (place_of stripes row) (pos 0)) + unsigned_abs amount
         < 2 ^ 127 }
-    ensures { HasGrown (record { row = row; amount = amount } ∷ []) (stripe_of stripes row) stripes totals.old.items
-        totals.new.items }
+    ensures { HasGrown (record { row = row; amount = amount } ∷ []) (stripe_of stripes row) stripes totals.old.list
+        totals.new.list }
 {
-    add_at(totals, place_of(row, stripes) as usize, amount);
-}
-
-// Adds to one total.
-fn add_at(totals: &mut Vec<i128>, place: usize, amount: i128)
-    requires there { place < length totals.old.items }
-    requires small { unsigned_abs (slice_index_or totals.old.items place (pos 0)) + unsigned_abs amount < 2 ^ 127 }
-    ensures { totals.new.items ≡ slice_set totals.old.items place
-        (slice_index_or totals.old.items place (pos 0) +ℤ amount) }
-{
-    totals[place] += amount;
+    totals.add(place_of(row, stripes) as usize, amount);
 }

@@ -18,8 +18,8 @@ loop-i-init g c =
     record {
       inside = found_inside entries c.args.stripes c.args.index 0 c.first_of-i.result found;
       own = found_own entries c.args.stripes c.args.index 0 c.first_of-i.result found;
-      grown = grown_to_next entries c.args.index c.args.stripes 0 c.first_of-i.result c.args.totals.now.items c.args.totals.now.items c.requires.index found
-          (grown_by_none c.args.index c.args.stripes c.args.totals.now.items);
+      grown = grown_to_next entries c.args.index c.args.stripes 0 c.first_of-i.result c.args.totals.now.list c.args.totals.now.list c.requires.index found
+          (grown_by_none c.args.index c.args.stripes c.args.totals.now.list);
     }
 
 pub add_entry-requires-clause-there : goal.add_entry-requires-clause-there
@@ -38,7 +38,7 @@ add_entry-requires-clause-small g c =
     let row : c.entry-row.result.0 < g.N.RowName.rows = rw c.entry-row.ensures.row entry.0 in
     let here : stripe_of c.args.stripes c.entry-row.result.0 ≡ c.args.index = ap (stripe_of c.args.stripes) c.entry-row.ensures.row ∙ c.loop-i.invariant.own below in
     let under = place_there c.args.stripes g.N.RowName.rows c.args.index c.entry-row.result.0 c.requires.index row here in
-    let total = small_before c.args.packet.now.entries.list c.loop-i.i c.args.index c.args.stripes c.entry-row.result.0 (2 ^ 98) c.args.totals.now.items c.loop-i.totals.items c.requires.packet.rising below c.entry-row.ensures.row here (omega (arith, under, c.requires.length)) c.loop-i.invariant.grown c.requires.small in
+    let total = small_before c.args.packet.now.entries.list c.loop-i.i c.args.index c.args.stripes c.entry-row.result.0 (2 ^ 98) c.args.totals.now.list c.loop-i.totals.list c.requires.packet.rising below c.entry-row.ensures.row here (omega (arith, under, c.requires.length)) c.loop-i.invariant.grown c.requires.small in
     let is : c.entry-row.result.1 ≡ g.N.RowName.amount c.args.packet.now.job (entry_in c.args.packet.now.entries.list c.loop-i.i).row = c.entry-row.ensures.amount ∙ entry.1 in
     let its : unsigned_abs c.entry-row.result.1 ≤ 2 ^ 98 = rw is (let a = amount_small g.N.RowName.amount g.N.RowName.jobs c.args.packet.now.job (entry_in c.args.packet.now.entries.list c.loop-i.i).row (2 ^ 98) c.requires.job (g.N.RowName.small _ entry.0) in omega arith) in
     let fits : SFits w128 c.entry-row.result.1 = search rules in

@@ -8,7 +8,7 @@ abbrev pub invariant-loop-i : goal.invariant-loop-i
 invariant-loop-i g l = record {
   inside : l.i ≤ length l.packet.entries.list;
   own : l.i < length l.packet.entries.list → stripe_of l.stripes (entry_in l.packet.entries.list l.i).row ≡ l.index;
-  grown : HasGrown (take l.i l.packet.entries.list) l.index l.stripes l.initial.totals.items l.totals.items;
+  grown : HasGrown (take l.i l.packet.entries.list) l.index l.stripes l.initial.totals.list l.totals.list;
 }
 
 abbrev pub decreases-loop-i : goal.decreases-loop-i

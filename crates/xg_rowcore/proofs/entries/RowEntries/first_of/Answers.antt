@@ -12,7 +12,7 @@ returns-then-self-stripes c =
     let first = c.self.inside.chains.first.items in
     let kept = c.self.invariant.5 in
     let rows_are : rows ≡ rows_of_entries c.args.self.now.list =
-    sym (rows_of-entries_from rows c.self.inside.amounts.items c.self.invariant.0) ∙ ap (λ (l : Listed). rows_of_entries l.list) c.self.view_is in
+    sym (rows_of-entries_from rows c.self.inside.amounts.list c.self.invariant.0) ∙ ap (λ (l : Listed). rows_of_entries l.list) c.self.view_is in
     let is : c.self.inside.chains.stripes ≡ c.args.stripes = c.if-self-stripes.true in
     let linked = kept.linked (omega (arith, is, c.requires)) in
     let found = linked.firsts c.args.stripe (omega (arith, is, c.requires)) in
@@ -25,6 +25,6 @@ pub returns-else-self-stripes : goal.returns-else-self-stripes
 returns-else-self-stripes c =
     let rows = c.self.inside.rows.items in
     let rows_are : rows ≡ rows_of_entries c.args.self.now.list =
-    sym (rows_of-entries_from rows c.self.inside.amounts.items c.self.invariant.0) ∙ ap (λ (l : Listed). rows_of_entries l.list) c.self.view_is in
+    sym (rows_of-entries_from rows c.self.inside.amounts.list c.self.invariant.0) ∙ ap (λ (l : Listed). rows_of_entries l.list) c.self.view_is in
     let items = c.deref.ensures.value in
     subst (λ rs. IsNextOf c.args.stripes c.args.stripe rs 0 c.seek.result) (items ∙ rows_are) c.seek.ensures

@@ -6,5 +6,5 @@ use Rattle.xg_rowcore.proofs.entries.RowEntries.len.Goals as goal
 pub returns : goal.returns
 returns c =
     c.len.ensures ∙ c.self.inside.rows.ok.0
-    ∙ sym (length-entries_from c.self.inside.rows.items c.self.inside.amounts.items c.self.invariant.0)
+    ∙ sym (length-entries_from c.self.inside.rows.items c.self.inside.amounts.list c.self.invariant.0)
     ∙ ap (λ (l : Listed). length l.list) c.self.view_is

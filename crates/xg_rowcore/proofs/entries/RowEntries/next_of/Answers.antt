@@ -10,25 +10,25 @@ use Rattle.xg_rowcore.proofs.entries.RowEntries.next_of.Goals as goal
 
 pub index-requires : goal.index-requires
 index-requires c =
-    let count = length-entries_from c.self.inside.rows.items c.self.inside.amounts.items c.self.invariant.0 in
+    let count = length-entries_from c.self.inside.rows.items c.self.inside.amounts.list c.self.invariant.0 in
     let now = ap (λ (l : Listed). length l.list) c.self.view_is in
     omega (arith, count, now, c.requires.there, c.self.invariant.4, c.self.invariant.5.next_count, c.self.inside.chains.next.ok.0)
 
 pub index-requires-else-self-stripes : goal.index-requires-else-self-stripes
 index-requires-else-self-stripes c =
-    let count = length-entries_from c.self.inside.rows.items c.self.inside.amounts.items c.self.invariant.0 in
+    let count = length-entries_from c.self.inside.rows.items c.self.inside.amounts.list c.self.invariant.0 in
     let now = ap (λ (l : Listed). length l.list) c.self.view_is in
     omega (arith, count, now, c.requires.there, c.self.inside.rows.ok.0)
 
 pub overflow_add-i : goal.overflow_add-i
 overflow_add-i c =
-    let count = length-entries_from c.self.inside.rows.items c.self.inside.amounts.items c.self.invariant.0 in
+    let count = length-entries_from c.self.inside.rows.items c.self.inside.amounts.list c.self.invariant.0 in
     let now = ap (λ (l : Listed). length l.list) c.self.view_is in
     omega (arith, count, now, c.requires.there, c.self.inside.rows.ok)
 
 pub seek-requires-clause-from : goal.seek-requires-clause-from
 seek-requires-clause-from c =
-    let count = length-entries_from c.self.inside.rows.items c.self.inside.amounts.items c.self.invariant.0 in
+    let count = length-entries_from c.self.inside.rows.items c.self.inside.amounts.list c.self.invariant.0 in
     let now = ap (λ (l : Listed). length l.list) c.self.view_is in
     omega (arith, count, now, c.requires.there, ap length c.deref.ensures.value)
 
@@ -37,11 +37,11 @@ returns-then-self-stripes c =
     let rows = c.self.inside.rows.items in
     let next = c.self.inside.chains.next.items in
     let kept = c.self.invariant.5 in
-    let count = length-entries_from rows c.self.inside.amounts.items c.self.invariant.0 in
+    let count = length-entries_from rows c.self.inside.amounts.list c.self.invariant.0 in
     let now = ap (λ (l : Listed). length l.list) c.self.view_is in
     let below : c.args.i < length rows = omega (arith, count, now, c.requires.there) in
     let rows_are : rows ≡ rows_of_entries c.args.self.now.list =
-    sym (rows_of-entries_from rows c.self.inside.amounts.items c.self.invariant.0) ∙ ap (λ (l : Listed). rows_of_entries l.list) c.self.view_is in
+    sym (rows_of-entries_from rows c.self.inside.amounts.list c.self.invariant.0) ∙ ap (λ (l : Listed). rows_of_entries l.list) c.self.view_is in
     let row : slice_index rows c.args.i ≡ (entry_in c.args.self.now.list c.args.i).row =
     ap (λ rs. slice_index rs c.args.i) rows_are ∙ row_of_entry c.args.self.now.list c.args.i in
     let is : c.self.inside.chains.stripes ≡ c.args.stripes = c.if-self-stripes.true in
@@ -56,8 +56,8 @@ pub returns-else-self-stripes : goal.returns-else-self-stripes
 returns-else-self-stripes c =
     let rows = c.self.inside.rows.items in
     let rows_are : rows ≡ rows_of_entries c.args.self.now.list =
-    sym (rows_of-entries_from rows c.self.inside.amounts.items c.self.invariant.0) ∙ ap (λ (l : Listed). rows_of_entries l.list) c.self.view_is in
-    let count = length-entries_from rows c.self.inside.amounts.items c.self.invariant.0 in
+    sym (rows_of-entries_from rows c.self.inside.amounts.list c.self.invariant.0) ∙ ap (λ (l : Listed). rows_of_entries l.list) c.self.view_is in
+    let count = length-entries_from rows c.self.inside.amounts.list c.self.invariant.0 in
     let now = ap (λ (l : Listed). length l.list) c.self.view_is in
     let below : c.args.i < length rows = omega (arith, count, now, c.requires.there) in
     let read : c.index-else-self-stripes.result.now ≡ slice_index rows c.args.i =
