@@ -1,3 +1,4 @@
+pub mod Filling
 mod Rising
 mod Leaves
 mod Touching

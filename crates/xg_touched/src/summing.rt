@@ -10,6 +10,7 @@ use def_tree::Player;
 use xg_seq::SeqForm;
 
 /// The sum over a leaf and those after it on its thread, up to the last of a job.
+#[inline(always)]
 pub(crate) fn thread_sum(
     form: &SeqForm,
     player: Player,

@@ -1,10 +1,11 @@
 //! The rows of a job, and its packet.
-ghost use Rattle.std.specs.Prelude.{◌≡◌, ◌+◌, ◌<◌, ◌≤◌, [], length, take, All, IfOk, slice_index};
+ghost use Rattle.std.specs.Prelude.{◌≡◌, ◌+◌, ◌<◌, ◌≤◌, length, All, IfOk, slice_index};
 ghost use Rattle.def_sums.specs.Limits.{most_root};
 ghost use Rattle.def_plan.specs.Form.{sequence_count};
 ghost use Rattle.def_plan.specs.FormRows.{row_count};
 ghost use Rattle.def_history.specs.JobPackets.{packet_of};
-ghost use Rattle.xg_touched.specs.Filling.{amount_upto, entries_at_rows};
+ghost use Rattle.xg_rowcore.specs.Packets.{zeros_at};
+ghost use Rattle.xg_touched.specs.Filling.{amount_upto, entries_at_rows, entries_upto};
 ghost use Rattle.xg_touched.specs.Touched.{job_rows};
 
 use crate::building::{first_leaves_of, rows_of};
@@ -12,7 +13,7 @@ use crate::summing::thread_sum;
 use def_tree::Player;
 use std::alloc::{AllocError, Global};
 use std::marker::Model;
-use xg_rowcore::Packet;
+use xg_rowcore::{LinkedRows, Packet};
 use xg_seq::SeqForm;
 
 /// The rows that a job's leaves have, in rising order, and for each row the first leaf of the job that has it.
@@ -20,7 +21,7 @@ use xg_seq::SeqForm;
 pub struct TouchedRows {
     leaves_before: u32,
     count: u32,
-    rows: Vec<u32>,
+    rows: LinkedRows,
     first_leaves: Vec<u32>,
 }
 
@@ -31,7 +32,7 @@ impl Model for TouchedRows {
 
     ghost view = { λ t. record {
       range = record { first = t.leaves_before; count = t.count };
-      rows = t.rows.items;
+      rows = t.rows;
       first_leaves = t.first_leaves.items;
     } };
 }
@@ -50,8 +51,11 @@ impl TouchedRows {
         requires room { row_count form.now ≤ length places.old }
         ensures { IfOk result (λ touched. touched ≡ job_rows form.now (record { first = first; count = count })) }
     {
+        // the limits of a form's sequences
+        form.facts();
         let rows = rows_of(alloc, form, first, count)?;
         let first_leaves = first_leaves_of(alloc, form, first, count, &rows, places)?;
+        let rows = LinkedRows::new(alloc, rows)?;
         Ok(TouchedRows {
             leaves_before: first,
             count,
@@ -64,7 +68,7 @@ impl TouchedRows {
     pub fn len(&self) -> usize
         ensures { result ≡ length self.now.rows }
     {
-        self.rows.len()
+        self.rows.rows().len()
     }
 
     /// Makes the packet of the job from a number for each sequence.
@@ -82,7 +86,7 @@ impl TouchedRows {
           room = into.old.entries.room;
         } }
     {
-        into.start(job);
+        into.start_with(job, &self.rows);
         let ones = self.put_rows_of_one(form, one, two, into);
         self.put_rows_of_two(ones, form, one, two, into);
     }
@@ -95,26 +99,26 @@ impl TouchedRows {
         requires count_two { length two.now ≡ sequence_count form.now.sets_two }
         requires small_one { All (λ n. n ≤ most_root) one.now }
         requires small_two { All (λ n. n ≤ most_root) two.now }
-        requires empty { into.old.entries.list ≡ [] }
-        requires room { length self.now.rows ≤ into.old.entries.room }
+        requires zeros { into.old.entries.list ≡ zeros_at self.now.rows }
         ensures ones { result ≤ length self.now.rows }
         ensures others { result < length self.now.rows
             → sequence_count form.now.sets_one ≤ slice_index self.now.rows result }
         ensures job { into.new.job ≡ into.old.job }
         ensures entries { let amount = amount_upto form.now one.now two.now self.now.range.first self.now.range.count in
             into.new.entries ≡ record {
-              list = entries_at_rows amount (take result self.now.rows);
+              list = entries_upto amount result self.now.rows;
               room = into.old.entries.room;
             } }
     {
         let count = form.sequence_count(Player::One);
-        for i in 0..self.rows.len() {
-            if self.rows[i] >= count {
+        let rows = self.rows.rows();
+        for i in 0..rows.len() {
+            if rows[i] >= count {
                 return i;
             }
-            into.push(self.rows[i], self.amount_of_one(i, form, one, two));
+            into.put(i, self.amount_of_one(i, form, one, two));
         }
-        self.rows.len()
+        rows.len()
     }
 
     // Puts the rows from a place on, which are player two's.
@@ -136,8 +140,7 @@ impl TouchedRows {
         requires others { ones < length self.now.rows
             → sequence_count form.now.sets_one ≤ slice_index self.now.rows ones }
         requires known { let amount = amount_upto form.now one.now two.now self.now.range.first self.now.range.count in
-            into.old.entries.list ≡ entries_at_rows amount (take ones self.now.rows) }
-        requires room { length self.now.rows ≤ into.old.entries.room }
+            into.old.entries.list ≡ entries_upto amount ones self.now.rows }
         ensures job { into.new.job ≡ into.old.job }
         ensures entries { let amount = amount_upto form.now one.now two.now self.now.range.first self.now.range.count in
             into.new.entries ≡ record {
@@ -145,8 +148,8 @@ impl TouchedRows {
               room = into.old.entries.room;
             } }
     {
-        for i in ones..self.rows.len() {
-            into.push(self.rows[i], self.amount_of_two(i, form, one, two));
+        for i in ones..self.len() {
+            into.put(i, self.amount_of_two(i, form, one, two));
         }
     }
 

@@ -1,80 +1,52 @@
-use Rattle.std.proofs.Common.{◌≡◌, ℕ, ◌<◌, ◌∷◌, [], ◌++◌, List, length, get_or, take, ℤ, FitsSigned, to_z, of_z, ap, sym, subst, rules, ◌∙◌, arith}
-use Rattle.std.specs.Prelude.{slice_index}
-use Rattle.std.specs.List.Sorted.{IsStrictlyIncreasing}
+use Rattle.std.proofs.Common.{◌≡◌, ℕ, ◌<◌, List, length, get_or, ℤ, FitsSigned, to_z, of_z, ap, sym, refl, rules, ◌∙◌, arith}
 use mir.Syntax.{w128}
 use Rattle.std.proofs.lemmas.Int.{to_z-of_z}
-use Rattle.std.proofs.lemmas.List.{get_or_default, length-map, length-take, map_push, take_more}
-use Rattle.def_history.specs.Ranges.{LeafRange}
-use Rattle.def_history.specs.JobRows.{job_leaves}
-use Rattle.def_history.specs.Packets.{RowAmount}
-use Rattle.xg_rowcore.specs.Packets.{IsAboveLast, Listed}
-use Rattle.xg_touched.specs.Filling.{amount_upto, entries_at_rows}
+use Rattle.xg_rowcore.specs.Packets.{Listed, with_amount}
+use Rattle.xg_touched.specs.Filling.{amount_upto, entries_upto}
 use Rattle.xg_touched.specs.Touched.{JobRows}
-use Rattle.xg_touched.proofs.Rising.{put_above}
-use Rattle.xg_touched.proofs.Touching.{touched_rise}
+use Rattle.xg_touched.proofs.Filling.{length-upto, upto_more, upto_none}
 use Rattle.xg_touched.proofs.touched.TouchedRows.put_rows_of_one.Goals as goal
 
-pub push-requires-clause-room : goal.push-requires-clause-room
-push-requires-clause-room c =
-    let rows = c.args.self.now.rows in
-    let i : ℕ = c.loop-i.i in
-    let f = amount_upto c.args.form.now c.args.one.now c.args.two.now c.args.self.now.range.first c.args.self.now.range.count in
-    let g : ℕ → RowAmount = λ row. record { row = row; amount = f row } in
-    let count = ap (length {A = RowAmount}) c.loop-i.invariant.list in
-    let low : i < length rows = omega (arith, c.len-i-end.ensures, ap (λ (x : JobRows). length x.rows) c.self.view_is) in
-    omega (arith, count, length-map (take i rows) g, length-take i rows, c.requires.room, c.loop-i.invariant.room)
+pub loop-i-init : goal.loop-i-init
+loop-i-init c =
+    let f : ℕ → ℤ = amount_upto c.args.form.now c.args.one.now c.args.two.now c.args.self.now.range.first c.args.self.now.range.count in
+    record { job = refl; list = c.requires.zeros ∙ sym (upto_none f c.args.self.now.rows); room = refl }
 
-pub push-requires-clause-above : goal.push-requires-clause-above
-push-requires-clause-above c =
-    let form = c.args.form.now in
-    let range : LeafRange = c.args.self.now.range in
-    let rows : List ℕ = c.args.self.now.rows in
-    let i : ℕ = c.loop-i.i in
-    let f : ℕ → ℤ = amount_upto form c.args.one.now c.args.two.now range.first range.count in
-    let long = ap (λ (x : JobRows). length x.rows) c.self.view_is in
-    let low : i < length rows = omega (arith, c.len-i-end.ensures) in
-    let row_is : c.index-in-loop-i.result.now ≡ get_or rows i 0 =
-    c.index-in-loop-i.ensures ∙ get_or_default c.self.inside.rows.items i c.index-in-loop-i.result.now 0 (omega arith) ∙ ap (λ (x : JobRows). slice_index x.rows i) c.self.view_is in
-    let up : IsStrictlyIncreasing rows = subst IsStrictlyIncreasing (sym (ap (λ (x : JobRows). x.rows) c.requires.rows)) (touched_rise form (job_leaves form range)) in
-    subst (λ es. IsAboveLast es c.index-in-loop-i.result.now) (sym c.loop-i.invariant.list)
-    (subst (IsAboveLast (entries_at_rows f (take i rows))) (sym row_is) (put_above f rows i up low))
+pub put-requires : goal.put-requires
+put-requires c =
+    let rows = c.args.self.now.rows in
+    let f : ℕ → ℤ = amount_upto c.args.form.now c.args.one.now c.args.two.now c.args.self.now.range.first c.args.self.now.range.count in
+    let long = ap length c.rows-rows.ensures ∙ ap (λ (x : JobRows). length x.rows) c.self.view_is in
+    omega (arith, long, c.loop-i-test.true, ap length c.loop-i.invariant.list, length-upto f c.loop-i.i rows)
 
 pub loop-i-preserved : goal.loop-i-preserved
 loop-i-preserved c =
-    let form = c.args.form.now in
-    let range : LeafRange = c.args.self.now.range in
     let rows : List ℕ = c.args.self.now.rows in
     let i : ℕ = c.loop-i.i in
-    let f : ℕ → ℤ = amount_upto form c.args.one.now c.args.two.now range.first range.count in
-    let long = ap (λ (x : JobRows). length x.rows) c.self.view_is in
-    let low : i < length rows = omega (arith, c.len-i-end.ensures) in
-    let row_is : c.index-in-loop-i.result.now ≡ get_or rows i 0 =
-    c.index-in-loop-i.ensures ∙ get_or_default c.self.inside.rows.items i c.index-in-loop-i.result.now 0 (omega arith) ∙ ap (λ (x : JobRows). slice_index x.rows i) c.self.view_is in
-    let g : ℕ → RowAmount = λ row. record { row = row; amount = f row } in
+    let f : ℕ → ℤ = amount_upto c.args.form.now c.args.one.now c.args.two.now c.args.self.now.range.first c.args.self.now.range.count in
+    let long = ap length c.rows-rows.ensures ∙ ap (λ (x : JobRows). length x.rows) c.self.view_is in
+    let low : i < length rows = omega (arith, long, c.loop-i-test.true) in
     let fits : FitsSigned w128 c.amount_of_one.result = search rules in
-    let amount_is : to_z w128 (of_z w128 c.amount_of_one.result) ≡ f (get_or rows i 0) = to_z-of_z w128 c.amount_of_one.result fits ∙ c.amount_of_one.ensures in
+    let amount : ℤ = to_z w128 (of_z w128 c.amount_of_one.result) in
+    let amount_is : amount ≡ f (get_or rows i 0) = to_z-of_z w128 c.amount_of_one.result fits ∙ c.amount_of_one.ensures in
     record {
-      job = c.push.ensures.job ∙ c.loop-i.invariant.job;
+      job = c.put.ensures.job ∙ c.loop-i.invariant.job;
       list =
-          ap (λ (x : Listed). x.list) c.push.ensures.entries
-          ∙ (λ t. c.loop-i.invariant.list t ++ record { row = row_is t; amount = amount_is t } ∷ [])
-          ∙ sym (ap (entries_at_rows f) (take_more rows i 0 low) ∙ map_push g (take i rows) (get_or rows i 0));
-      room = ap (λ (x : Listed). x.room) c.push.ensures.entries ∙ c.loop-i.invariant.room;
+          ap (λ (x : Listed). x.list) c.put.ensures.entries
+          ∙ ap (λ es. with_amount es i amount) c.loop-i.invariant.list
+          ∙ upto_more f i amount rows low amount_is;
+      room = ap (λ (x : Listed). x.room) c.put.ensures.entries ∙ c.loop-i.invariant.room;
     }
 
 pub returns : goal.returns
 returns c =
-    let form = c.args.form.now in
-    let range : LeafRange = c.args.self.now.range in
-    let rows : List ℕ = c.args.self.now.rows in
-    let i : ℕ = c.loop-i.i in
-    let f : ℕ → ℤ = amount_upto form c.args.one.now c.args.two.now range.first range.count in
-    let long = ap (λ (x : JobRows). length x.rows) c.self.view_is in
-    let all : i ≡ c.len.result = omega (arith, c.len-i-end.ensures, c.len.ensures, c.loop-i-test.false) in
-    let list = c.loop-i.invariant.list ∙ ap (λ k. entries_at_rows f (take k rows)) all in
+    let f : ℕ → ℤ = amount_upto c.args.form.now c.args.one.now c.args.two.now c.args.self.now.range.first c.args.self.now.range.count in
+    let long = ap length c.rows-rows.ensures ∙ ap (λ (x : JobRows). length x.rows) c.self.view_is in
+    let all : c.loop-i.i ≡ length c.rows-rows.result.now = omega (arith, c.loop-i-test.false) in
+    let list = c.loop-i.invariant.list ∙ ap (λ k. entries_upto f k c.args.self.now.rows) all in
     record {
-      ones = omega (arith, c.len.ensures);
-      others = λ below. absurd (omega (arith, c.len.ensures));
+      ones = omega (arith, long);
+      others = λ below. absurd (omega (arith, long));
       job = c.loop-i.invariant.job;
       entries = λ t. record { list = list t; room = c.loop-i.invariant.room t };
     }
