@@ -9,7 +9,7 @@ use Rattle.xg_jobs.specs.declared.entry.TinyEntry.{TinyEntry}
 use Rattle.xg_jobs.specs.declared.entry.WideEntry.{WideEntry}
 use Rattle.xg_jobs.specs.declared.entry.GroupEntries.{GroupEntries}
 use Rattle.xg_jobs.specs.declared.entry.GroupEntries.TheVariants.{Small, Tiny, Wide}
-use Rattle.xg_jobs.specs.Groups.{GroupLeaf, group_at, groups_mass}
+use Rattle.xg_jobs.specs.Groups.{GroupLeaf, IsSmall, IsTiny, group_at, groups_mass}
 use Rattle.xg_jobs.specs.Grouping.{pair_weights, weights_in}
 
 abbrev pub tiny_leaf : TinyEntry → GroupLeaf
@@ -25,6 +25,12 @@ abbrev pub leaves_of_group : GroupEntries → List GroupLeaf
 leaves_of_group (Tiny entries) = map tiny_leaf entries.items
 leaves_of_group (Small entries) = map small_leaf entries.items
 leaves_of_group (Wide entries) = map wide_leaf entries.items
+
+-- no smaller entries have room for all of them
+abbrev pub AreSmallest : GroupEntries → Type 0
+AreSmallest (Tiny _) = Unit {0}
+AreSmallest (Small entries) = All (λ e. IsTiny (small_leaf e)) entries.items → ⊥
+AreSmallest (Wide entries) = (All (λ e. IsSmall (wide_leaf e)) entries.items → ⊥) × (All (λ e. IsTiny (wide_leaf e)) entries.items → ⊥)
 
 -- each group begins where the one before it ends, none goes on behind the last entry; its leaves have sequences of the
 -- other player, who has so many, and the sizes of all weights together are no more than the mass

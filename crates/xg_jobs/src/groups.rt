@@ -37,7 +37,7 @@ pub(crate) struct LeafGroups {
 }
 
 impl Model for LeafGroups {
-    ghost use Rattle.xg_jobs.specs.Entries.{KeepsGroups, leaves_of_group};
+    ghost use Rattle.xg_jobs.specs.Entries.{AreSmallest, KeepsGroups, leaves_of_group};
     ghost use Rattle.xg_jobs.specs.Grouping.{GroupedWeights, weights_in};
 
     ghost Value = { GroupedWeights };
@@ -47,7 +47,8 @@ impl Model for LeafGroups {
       mass = g.mass;
     } };
 
-    ghost invariant = { λ g. KeepsGroups g.starts.items (leaves_of_group g.entries) g.others g.mass };
+    ghost invariant = { λ g. KeepsGroups g.starts.items (leaves_of_group g.entries) g.others g.mass
+        × AreSmallest g.entries };
 }
 
 impl LeafGroups {

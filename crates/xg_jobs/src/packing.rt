@@ -1,7 +1,7 @@
 //! Entries in fewer bytes.
 ghost use Rattle.std.specs.Prelude.{◌≡◌, ◌↔◌, All, FitsSigned, IfOk, IsTrue, map};
 ghost use Rattle.std.specs.Int.{w32};
-ghost use Rattle.xg_jobs.specs.Entries.{leaves_of_group, small_leaf, tiny_leaf, wide_leaf};
+ghost use Rattle.xg_jobs.specs.Entries.{AreSmallest, leaves_of_group, small_leaf, tiny_leaf, wide_leaf};
 ghost use Rattle.xg_jobs.specs.Groups.{IsSmall, IsTiny};
 
 use crate::entry::{GroupEntries, GroupEntry, SmallEntry, TinyEntry, WideEntry};
@@ -11,12 +11,14 @@ use std::alloc::{AllocError, Global};
 pub(crate) trait MergedEntry: GroupEntry {
     /// The same leaves in the smallest entries that have room for all of them.
     fn pack(alloc: Global, entries: Vec<Self>) -> Result<GroupEntries, AllocError>
-        ensures { IfOk result (λ packed. leaves_of_group packed ≡ map Self.leaf entries.items) };
+        ensures leaves { IfOk result (λ packed. leaves_of_group packed ≡ map Self.leaf entries.items) }
+        ensures smallest { IfOk result AreSmallest };
 }
 
 impl MergedEntry for SmallEntry {
     fn pack(alloc: Global, entries: Vec<SmallEntry>) -> Result<GroupEntries, AllocError>
-        ensures { IfOk result (λ packed. leaves_of_group packed ≡ map small_leaf entries.items) }
+        ensures leaves { IfOk result (λ packed. leaves_of_group packed ≡ map small_leaf entries.items) }
+        ensures smallest { IfOk result AreSmallest }
     {
         if are_tiny(&entries) {
             Ok(GroupEntries::Tiny(tiny_entries(alloc, &entries)?))
@@ -28,7 +30,8 @@ impl MergedEntry for SmallEntry {
 
 impl MergedEntry for WideEntry {
     fn pack(alloc: Global, entries: Vec<WideEntry>) -> Result<GroupEntries, AllocError>
-        ensures { IfOk result (λ packed. leaves_of_group packed ≡ map wide_leaf entries.items) }
+        ensures leaves { IfOk result (λ packed. leaves_of_group packed ≡ map wide_leaf entries.items) }
+        ensures smallest { IfOk result AreSmallest }
     {
         if are_tiny(&entries) {
             Ok(GroupEntries::Tiny(tiny_entries(alloc, &entries)?))

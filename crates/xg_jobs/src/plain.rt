@@ -1,4 +1,10 @@
 //! Rows by one loop, without workers.
+ghost use Rattle.std.specs.Prelude.{◌≡◌, ◌↔◌, ◌*◌, ◌^◌, ◌<◌, max, IsTrue, length};
+ghost use Rattle.def_plan.specs.Form.{sequence_count};
+ghost use Rattle.xg_jobs.specs.Groups.{greatest_of};
+ghost use Rattle.xg_jobs.specs.Rows.{AreNumbersOf, ArePlainSums};
+ghost use Rattle.xg_jobs.specs.Table.{HasLeavesOf};
+
 use crate::input::RowInput;
 use crate::maker::RowMaker;
 use crate::rows::{Rows, SmallRows};
@@ -39,7 +45,17 @@ impl RowMaker for PlainRows {
         Ok(rows)
     }
 
-    fn small_rows(&self, input: &RowInput<'_>, jobs: &JobTable, rows: &mut SmallRows) -> bool {
+    fn small_rows(&self, input: &RowInput<'_>, jobs: &JobTable, rows: &mut SmallRows) -> bool
+        requires numbers { AreNumbersOf input.now.form.now input.now.one.now input.now.two.now }
+        requires table { HasLeavesOf input.now.form.now jobs.now }
+        requires rows_one { length rows.old.one ≡ sequence_count input.now.form.now.sets_one }
+        requires rows_two { length rows.old.two ≡ sequence_count input.now.form.now.sets_two }
+        ensures fits { let most = max (greatest_of input.now.one.now) (greatest_of input.now.two.now) in
+            IsTrue result ↔ jobs.now.mass * most < 2 ^ 63 }
+        ensures sums { IsTrue result → ArePlainSums input.now.form.now input.now.one.now input.now.two.now rows.new }
+        ensures count_one { length rows.new.one ≡ length rows.old.one }
+        ensures count_two { length rows.new.two ≡ length rows.old.two }
+    {
         jobs.write_small_to(input, rows)
     }
 }

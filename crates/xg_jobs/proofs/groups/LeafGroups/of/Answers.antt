@@ -14,12 +14,14 @@ invariant_of-result g c =
     let starts = c.in_ok-groups.groups.starts.items in
     let entries : List GroupLeaf = map g.E.GroupEntry.leaf c.in_ok-groups.groups.entries.items in
     let kept = c.in_ok-groups.ensures.keeps in
-    subst (λ es. KeepsGroups starts es c.sequence_count.result c.args.mass) (sym c.in_ok-pack.ensures)
-    (subst (λ n. KeepsGroups starts entries n c.args.mass) (sym c.sequence_count.ensures.count) (subst (KeepsGroups starts entries (sequence_count c.args.form.now.sets_two)) (sym c.requires.mass) kept))
+    let keeps =
+    subst (λ es. KeepsGroups starts es c.sequence_count.result c.args.mass) (sym c.in_ok-pack.ensures.leaves)
+    (subst (λ n. KeepsGroups starts entries n c.args.mass) (sym c.sequence_count.ensures.count) (subst (KeepsGroups starts entries (sequence_count c.args.form.now.sets_two)) (sym c.requires.mass) kept)) in
+    (keeps, c.in_ok-pack.ensures.smallest)
 
 pub returns-clause-weights : goal.returns-clause-weights
 returns-clause-weights g c =
     let starts = c.in_ok-groups.groups.starts.items in
     let entries : List GroupLeaf = map g.E.GroupEntry.leaf c.in_ok-groups.groups.entries.items in
-    ap (λ es. weights_in starts es c.sequence_count.result) c.in_ok-pack.ensures
+    ap (λ es. weights_in starts es c.sequence_count.result) c.in_ok-pack.ensures.leaves
     ∙ ap (weights_in starts entries) c.sequence_count.ensures.count ∙ c.in_ok-groups.ensures.weights

@@ -12,7 +12,7 @@ write_small_rows-requires-clause-fits c =
     let groups = c.self.inside in
     can_write (2 ^ 63) groups.starts.items c.deref.result.now (leaves_of_group groups.entries) (map tiny_leaf c.deref-in-Tiny.result.now) form x y groups.others groups.mass
     c.deref.ensures.value (ap (map tiny_leaf) c.deref-in-Tiny.ensures.value ∙ sym (ap leaves_of_group c.in-Tiny.is))
-    (ap (λ (g : GroupedWeights). g.weights) c.self.view_is ∙ c.requires.groups) c.self.invariant c.facts.ensures.sequences
+    (ap (λ (g : GroupedWeights). g.weights) c.self.view_is ∙ c.requires.groups) c.self.invariant.0 c.facts.ensures.sequences
     (c.sums_fit_word.ensures.0 c.if-not-sums_fit_word.false)
 
 pub write_small_rows-requires-in-Small-clause-fits : goal.write_small_rows-requires-in-Small-clause-fits
@@ -23,7 +23,7 @@ write_small_rows-requires-in-Small-clause-fits c =
     let groups = c.self.inside in
     can_write (2 ^ 63) groups.starts.items c.deref-in-Small.result.now (leaves_of_group groups.entries) (map small_leaf c.deref-in-Small-2.result.now) form x y groups.others groups.mass
     c.deref-in-Small.ensures.value (ap (map small_leaf) c.deref-in-Small-2.ensures.value ∙ sym (ap leaves_of_group c.in-Small.is))
-    (ap (λ (g : GroupedWeights). g.weights) c.self.view_is ∙ c.requires.groups) c.self.invariant c.facts.ensures.sequences
+    (ap (λ (g : GroupedWeights). g.weights) c.self.view_is ∙ c.requires.groups) c.self.invariant.0 c.facts.ensures.sequences
     (c.sums_fit_word.ensures.0 c.if-not-sums_fit_word.false)
 
 pub write_small_rows-requires-in-Wide-clause-fits : goal.write_small_rows-requires-in-Wide-clause-fits
@@ -34,5 +34,5 @@ write_small_rows-requires-in-Wide-clause-fits c =
     let groups = c.self.inside in
     can_write (2 ^ 63) groups.starts.items c.deref-in-Wide.result.now (leaves_of_group groups.entries) (map wide_leaf c.deref-in-Wide-2.result.now) form x y groups.others groups.mass
     c.deref-in-Wide.ensures.value (ap (map wide_leaf) c.deref-in-Wide-2.ensures.value ∙ sym (ap leaves_of_group c.in-Wide.is))
-    (ap (λ (g : GroupedWeights). g.weights) c.self.view_is ∙ c.requires.groups) c.self.invariant c.facts.ensures.sequences
+    (ap (λ (g : GroupedWeights). g.weights) c.self.view_is ∙ c.requires.groups) c.self.invariant.0 c.facts.ensures.sequences
     (c.sums_fit_word.ensures.0 c.if-not-sums_fit_word.false)
