@@ -5,3 +5,4 @@ pub mod Totals
 pub mod NewRowsAreZero
 pub mod PlainRows
 pub mod SmallAmountsStay
+pub mod Crews

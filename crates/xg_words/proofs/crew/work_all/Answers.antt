@@ -1,13 +1,10 @@
-use Rattle.std.proofs.Common.{◌≡◌, ℕ, ◌<◌, ◌++◌, List, length, get_or, take, drop, All, sym, ◌∙◌, subst, arith}
+use Rattle.std.proofs.Common.{◌≡◌, ℕ, ◌<◌, ◌++◌, List, length, take, drop, All, sym, ◌∙◌, subst, arith}
 use Rattle.std.proofs.lemmas.List.{take-append-le, take_all}
 use denote.Param.Send.{sendable}
 use Rattle.xg_jobs.specs.Table.{most_touched}
+use Rattle.xg_board.proofs.Crews.{read_at}
 use Rattle.xg_words.specs.Running.{IsReadyToClaim, IsDoneClaiming}
 use Rattle.xg_words.proofs.crew.work_all.Goals as goal
-
--- what is true of each element is true of the one that is read
-read_at : {X : Type 0} (P : X → Type 0) (xs ys : List X) (i : ℕ) (x : X) → xs ≡ ys → All P ys → i < length xs → x ≡ get_or xs i x → P x
-read_at P xs ys i x same all below is = subst P (sym is) (subst (All P) (sym same) all i x below)
 
 -- where a list takes the place of one as long, it is what is there
 whole : {X : Type 0} (xs ys : List X) (n : ℕ) → length xs ≡ n → take n (xs ++ drop (length xs) ys) ≡ xs
