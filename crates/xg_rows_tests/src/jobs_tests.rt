@@ -12,6 +12,8 @@ use std::process::Abort;
 use std::sync::Wait;
 use std::test::Fail;
 use std::thread::Threads;
+use xg_board::run_rows;
+use xg_io::OpenGate;
 use xg_jobs::{JobTable, PlainRows, RowInput, RowMaker, Rows};
 use xg_rowcore::Packet;
 use xg_seq::SeqForm;
@@ -161,9 +163,13 @@ static SUMS: [Summed; 7] = [
 
 const HALF: i64 = 1 << 30;
 
+// Times the greatest number this just has no room in 64 bits, but has it below zero.
+const PAST_WORD: i64 = 1 << 27;
+
 // A leaf has the sequences of the one in its place after another deal. The sizes of all weights together are the
-// greatest number of 31 bits, and one and two more.
-static SUMS_AFTER_DEALS: [Summed; 5] = [
+// greatest number of 31 bits, and one and two more. Then what a deal brings, or what some deals bring together, just has
+// room in 64 bits, or just hasn't.
+static SUMS_AFTER_DEALS: [Summed; 10] = [
     Summed {
         weights: &[0, 0, 0, HALF, 0, 0, 0, HALF - 2, 0, 0, 0, 1],
         number: 1,
@@ -189,6 +195,57 @@ static SUMS_AFTER_DEALS: [Summed; 5] = [
         number: 1,
         sums: [0, (-1 << 31) - 1, 0],
     },
+    Summed {
+        weights: &[
+            0,
+            0,
+            0,
+            PAST_WORD / 2,
+            0,
+            0,
+            0,
+            PAST_WORD / 2 - 1,
+            0,
+            0,
+            0,
+            0,
+        ],
+        number: MOST,
+        sums: [0, 0, (1 << 63) - (1 << 36)],
+    },
+    Summed {
+        weights: &[0, 0, 0, PAST_WORD / 2, 0, 0, 0, PAST_WORD / 2, 0, 0, 0, 0],
+        number: MOST,
+        sums: [0, 0, 1 << 63],
+    },
+    Summed {
+        weights: &[0, -PAST_WORD, 0, PAST_WORD, 0, 0, 0, 0, 0, 0, 0, 3],
+        number: MOST,
+        sums: [-1 << 63, 0, (1 << 63) + (3 << 36)],
+    },
+    Summed {
+        weights: &[0, -PAST_WORD, 0, PAST_WORD - 1, 0, -1, 0, 1, 0, 0, 5, 0],
+        number: MOST,
+        sums: [(-1 << 63) - (1 << 36), 5 << 36, 1 << 63],
+    },
+    Summed {
+        weights: &[
+            0,
+            PAST_WORD,
+            0,
+            -PAST_WORD - 1,
+            0,
+            -PAST_WORD,
+            0,
+            PAST_WORD,
+            0,
+            2,
+            0,
+            0,
+        ],
+        number: MOST,
+        sums: [2 << 36, 0, -1 << 36],
+    },
 ];
 
 fn has_sums<Rt: Abort + Threads + Wait + Sync>(
@@ -204,8 +261,11 @@ fn has_sums<Rt: Abort + Threads + Wait + Sync>(
     let numbers = [row.number, 0, row.number];
     let input = input_of(rt, &built.form, &numbers, &numbers);
     let rows = PlainRows.rows(rt, alloc, &input, &built.jobs)?;
+    let by_workers = run_rows(rt, alloc, &input, &built.jobs, 3, 16, &OpenGate)?;
     let [first_one, first_two, second] = row.sums;
-    Ok(are_rows(&rows, &[0, first_one, second], &[0, first_two, second]))
+    let one = [0, first_one, second];
+    let two = [0, first_two, second];
+    Ok(are_rows(&rows, &one, &two) && are_rows(&by_workers, &one, &two))
 }
 
 fn sums_up<Rt: Abort + Threads + Wait + Sync>(

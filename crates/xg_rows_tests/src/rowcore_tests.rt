@@ -1,5 +1,5 @@
 //! Two jobs over three rows and two stripes.
-ghost use Rattle.std.specs.Prelude.{◌≡◌, ◌<◌, [], IfOk};
+ghost use Rattle.std.specs.Prelude.{◌≡◌, ◌<◌, [], ◌∷◌, IfOk};
 ghost use Rattle.def_history.specs.Packets.{IsPacketOf};
 ghost use Rattle.xg_rows_tests.specs.Twofold.{twofold};
 
@@ -7,7 +7,7 @@ use std::alloc::{AllocError, Global};
 use std::marker::{Send, Sync};
 use std::process::Abort;
 use std::test::Fail;
-use xg_rowcore::{Packet, RowName, Stripe};
+use xg_rowcore::{LinkedRows, Packet, RowName, Stripe};
 
 /// The first job has the amounts 0, 1 and 2, the second 0, 2 and 4.
 struct TwoJobs;
@@ -131,10 +131,62 @@ fn grouped_packets_add_the_same(rt: HostRuntime) -> Result<(), Fail> {
     Ok(())
 }
 
+// An amount at each border of 64 bits, and past it.
+fn assert_amounts(rt: &impl Abort, packet: &mut Packet)
+    requires room { packet.old.entries.room ≡ 2 }
+{
+    packet.start(0);
+    packet.push(1, i64::MAX as i128);
+    packet.push(2, i64::MIN as i128);
+    assert!(rt; packet.entry(0) == (1, (1 << 63) - 1) && packet.entry(1) == (2, -1 << 63));
+    packet.add(0, 1);
+    assert!(rt; packet.entry(0) == (1, 1 << 63) && packet.entry(1) == (2, -1 << 63));
+    packet.put(1, (-1 << 63) - 1);
+    packet.add(0, -2);
+    assert!(rt; packet.entry(0) == (1, (1 << 63) - 2) && packet.entry(1) == (2, (-1 << 63) - 1));
+    packet.start(1);
+    packet.push(3, 5);
+    assert!(rt; packet.len() == 1 && packet.entry(0) == (3, 5));
+    packet.push(4, 1 << 100);
+    assert!(rt; packet.entry(0) == (3, 5) && packet.entry(1) == (4, 1 << 100));
+}
+
+#[test]
+fn packets_keep_amounts_of_any_size(rt: HostRuntime) -> Result<(), Fail> {
+    let mut packet = Packet::new(rt.alloc(), 2)?;
+    assert_amounts(&rt, &mut packet);
+    Ok(())
+}
+
+fn assert_linked(rt: &impl Abort, packet: &mut Packet, rows: &LinkedRows)
+    requires rows { rows.now ≡ 1 ∷ 4 ∷ [] }
+    requires room { packet.old.entries.room ≡ 2 }
+{
+    packet.start(0);
+    packet.push(3, 1 << 100);
+    packet.start_with(7, rows);
+    assert!(rt; packet.job == 7 && packet.len() == 2);
+    assert!(rt; packet.entry(0) == (1, 0) && packet.entry(1) == (4, 0));
+    packet.put(1, 9);
+    assert!(rt; packet.entry(0) == (1, 0) && packet.entry(1) == (4, 9));
+}
+
+#[test]
+fn packets_take_linked_rows(rt: HostRuntime) -> Result<(), Fail> {
+    let mut rows = Vec::new(rt.alloc());
+    rows.push(1)?;
+    rows.push(4)?;
+    let linked = LinkedRows::new(rt.alloc(), rows)?;
+    let mut packet = Packet::new(rt.alloc(), 2)?;
+    assert_linked(&rt, &mut packet, &linked);
+    Ok(())
+}
+
 fn crosses_threads<T: Send + Sync>() {}
 
 #[test]
 fn packets_and_stripes_cross_threads(_rt: HostRuntime) -> Result<(), Fail> {
+    crosses_threads::<LinkedRows>();
     crosses_threads::<Packet>();
     crosses_threads::<Stripe<TwoJobs>>();
     Ok(())
