@@ -3,14 +3,16 @@
 
 Usage: python3 bench/gate.py [--save FILE] [--before FILE] [--log FILE] [-- COMMAND ..]
        python3 bench/gate.py --from FILE [--before FILE]
+       python3 bench/gate.py --meter [--from FILE]
 
-The command is `rt ci` where none is given; one that measures all is `bench/gate.py -- rt ci --anew`. It runs at the top
+The command is `rt ci` where none is given; one that measures all is `bench/gate.py -- .ci/run`. It runs at the top
 of the repository, and what it says goes to standard output and to the log. A table follows: for each crate the minutes
 of its proof, of its tests' proof, of its edits, of running its program and its tests, and all together; how many of its
 edits were tried, and when each began and ended, in minutes that passed. The lines below it tell what is in none of
 these (the gate itself, the layout, the repository's own checks), the time that passed, and the longest chain. The
 status is that of the command. --save writes the measures, --from prints those that were saved, and --before adds their
-column of all minutes.
+column of all minutes. --meter runs nothing: it prints the megabytes that checks of each crate kept, the minutes of a
+proof that they stand for, and where measures are given the minutes of its proof in them, with the ratio.
 
 A minute is the processor's, as the system counts it, with all threads and all children that were waited for. The
 processes below the command are looked at once a second. What a check takes after it was last seen is known when the
@@ -33,6 +35,10 @@ import subprocess
 import sys
 import tempfile
 import time
+
+sys.path.append(str(pathlib.Path(__file__).resolve().parent.parent / "tools" / "lib"))
+
+import meter
 
 ROOT = pathlib.Path(__file__).resolve().parent.parent
 TICK = os.sysconf("SC_CLK_TCK")
@@ -103,7 +109,7 @@ def work_of(words, folder):
     crate = value_after("--crate-name", words)
     if not crate or value_after("rattle", names) not in ("check", "build"):
         return None
-    if re.match(r"rt-edit-\d+-", os.path.basename(folder)):
+    if re.match(r"(rt|xg)-edit-", os.path.basename(folder)):
         return crate, "edits", value_after("--incremental", words).endswith("/seed")
     return crate, "tests" if "--test" in words else "proof", False
 
@@ -337,10 +343,7 @@ def table(measured, before):
 
 
 def show(measured, before):
-    rows = [*table(measured, before)]
-    widths = [max(map(len, column)) for column in zip(*rows)]
-    for name, *cells in rows:
-        print("  ".join([name.ljust(widths[0]), *map(str.rjust, cells, widths[1:])]).rstrip())
+    print_rows(table(measured, before))
     print()
     for what, it in (("", measured), ("before: ", before)):
         if it:
@@ -361,6 +364,42 @@ def tell(what, measured):
     print(f"{what}the longest chain took {whole} minutes: {', '.join(chain) or 'none'}")
 
 
+def meter_rows(measured):
+    """The rows of the meter's table, as texts: each crate for which something is kept, and all of them."""
+    yield ["crate", "MB", "meter", *["proof", "ratio"] * bool(measured)]
+    sums = [0.0, 0.0, 0.0]
+    for name, below in all_below().items():
+        kept = meter.kept(name)
+        row = measured["crates"].get(name) if measured else None
+        if kept is None or measured and not row:
+            continue
+        found = [kept, sum(meter.parts(len(below), kept)), row["proof"]["took"] if row else 0.0]
+        sums = [a + b for a, b in zip(sums, found)]
+        yield meter_row(name, found, measured)
+    yield meter_row("all of these", sums, measured)
+
+
+def meter_row(name, found, measured):
+    kept, told, took = found
+    ratio = f"{took / told:.2f}" if told else ""
+    return [name, f"{kept:.1f}", minutes(told), *([minutes(took), ratio] if measured else [])]
+
+
+def all_below():
+    """For each crate of the repository, all that it stands on."""
+    found = {}
+    for name, uses in crates_below().items():
+        found[name] = set(uses).union(*(found[it] for it in uses))
+    return found
+
+
+def print_rows(rows):
+    rows = [*rows]
+    widths = [max(map(len, column)) for column in zip(*rows)]
+    for name, *cells in rows:
+        print("  ".join([name.ljust(widths[0]), *map(str.rjust, cells, widths[1:])]).rstrip())
+
+
 def read(file):
     return json.loads(pathlib.Path(file).read_text()) if file else None
 
@@ -372,8 +411,12 @@ def main():
     parser.add_argument("--from", metavar="FILE", dest="saved")
     parser.add_argument("--before", metavar="FILE")
     parser.add_argument("--log", metavar="FILE")
+    parser.add_argument("--meter", action="store_true")
     given = parser.parse_args()
     before = read(given.before)
+    if given.meter:
+        print_rows(meter_rows(read(given.saved)))
+        return 0
     if given.saved:
         show(read(given.saved), before)
         return 0

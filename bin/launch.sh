@@ -31,3 +31,54 @@ stop_unbuilt() {
     echo "xg_solve: the program could not be built" >&2
     exit 70
 }
+
+# Runs the program with the words given in the launcher's place. Where standard error is a terminal, the launcher stays
+# behind it, and says after a status 1, 2 or 3 which call explains it; into files and pipes nothing is added.
+run() {
+    [ -t 2 ] || exec "$@"
+    { true <&0; } 2>/dev/null || exec "$@"
+    local status signal
+    child="" early=""
+    for signal in HUP INT QUIT TERM USR1 USR2; do
+        trap "pass_on $signal" "$signal"
+    done
+    # Beside a script that waits, standard input and the signals of the keyboard are given back to the program.
+    (trap - INT QUIT && exec "$@") <&0 &
+    child=$!
+    [ -z "$early" ] || pass_on "$early"
+    # A signal ends a wait early; the program's status comes again when it has ended. Where both came at once bash loses
+    # that, which a status that the program hasn't says, and then the signal has ended the program.
+    wait "$child"
+    while kill -0 "$child" 2>/dev/null; do wait "$child"; done
+    wait "$child"
+    status=$?
+    case $status in
+        127 | 255 | -1) [ -z "$early" ] || status=$((128 + $(kill -l "$early"))) ;;
+    esac
+    case $status in
+        1 | 2 | 3) shift && tell_explain "$@" >&2 ;;
+    esac
+    [ "$status" -le 128 ] || end_by "$((status - 128))"
+    exit "$status"
+}
+
+# Sends a signal on to the program, or keeps it until that has begun.
+pass_on() {
+    early=$1
+    [ -z "$child" ] || kill -s "$1" "$child" 2>/dev/null
+}
+
+# Says which call explains a fault.
+tell_explain() {
+    local tool=$root/tools/explain words=""
+    [ "$PWD" = "$root" ] && tool=tools/explain
+    [ $# -eq 0 ] || words=$(printf ' %q' "$@")
+    printf 'xg_solve: %q --%s says more; README.md and docs/man/xg_solve.1 have the commands\n' "$tool" "$words"
+}
+
+# Ends the launcher as the program ended, by a signal.
+end_by() {
+    ulimit -c 0
+    trap - "$1" 2>/dev/null
+    kill -s "$1" $$
+}

@@ -4,12 +4,16 @@
 Usage: tools/prove.py
 
 Crates are proved side by side, each once those that it stands on are proved, and first those with the longest chain of
-others behind them. A crate gets the processors that no other waits for. The status is 0 where the program is proved and
-built. Where it is not, what the toolchain said is shown.
+others behind them. A crate gets the processors that no other waits for. How long that takes is told from what checks
+kept, or from lines of code, and from the first crates on as this machine took for those. The status is 0 where the
+program is proved and built, and then it stands in out/, too, which the toolchain's gate leaves alone. Where it isn't,
+the status is 1, and what the toolchain said is shown. Words are refused with status 2. A signal ends it with 128 and
+the signal's number.
 
 In one copy of the repository the toolchain proves one crate at a time. So each check has a copy of its own, with the
 libraries that were proved before. The repository then takes what was proved there, as the toolchain has the copies of a
-machine do; where it doesn't, that is moved. The program is proved and built in the repository itself.
+machine do; where it doesn't, that is moved. The program is proved and built in the repository itself. What is moved
+stays on one file system, in the repository's folder .git where there is one, which no check reads.
 """
 import dataclasses
 import fcntl
@@ -23,16 +27,23 @@ import sys
 import tempfile
 import time
 
+sys.path.append(str(pathlib.Path(__file__).resolve().parent / "lib"))
+
+import meter
+
 ROOT = pathlib.Path(__file__).resolve().parent.parent
 CRATE = "xg_solve"
 PROGRAM = ROOT / "crates" / CRATE / "out" / CRATE
+KEPT = ROOT / "out" / CRATE
+RT = [sys.executable, str(ROOT / "tools" / "lib" / "toolchain.py")]
+ROOM = "xg-prove-"
+SIGNALS = (signal.SIGINT, signal.SIGTERM, signal.SIGHUP)
 PARTS = ("src", "specs", "proofs")
 # What one job of a check takes at the most, in bytes, and the jobs beyond which a check gains little.
 MEMORY_OF_A_JOB = 2 << 30
 MOST_JOBS = 4
-# The seconds of a check, as measured on idle processors: what each takes, what the program takes, for which all code is
-# read, and what a line of code takes. They make the estimate alone, which follows the time that is taken.
-SECONDS_OF_A_CHECK, SECONDS_OF_THE_PROGRAM, SECONDS_OF_A_LINE = 10, 30, 0.1
+# What is measured counts for as much as the meter once so many seconds of it are known.
+SECONDS_OF_TRUST = 60.0
 
 
 def crates_below():
@@ -71,9 +82,7 @@ def parts_of(crate, below):
     if stamp.exists() and stamp.stat().st_mtime > max(map(newest, [crate, *below])):
         # Nothing is to be proved again, most likely.
         return 1.0, 0.0
-    files = (ROOT / "crates" / crate / "src").rglob("*.rt")
-    lines = sum(it.read_text(errors="replace").count("\n") for it in files)
-    return SECONDS_OF_THE_PROGRAM if crate == CRATE else SECONDS_OF_A_CHECK, lines * SECONDS_OF_A_LINE
+    return meter.parts(len(below), meter.kept(crate) or meter.by_lines(crate))
 
 
 class Plan:
@@ -122,8 +131,7 @@ class Progress:
 
     def __init__(self, plan):
         self.plan, self.start, self.proved = plan, time.monotonic(), set()
-        # Before much is measured, the plan's seconds count as those that were taken.
-        self.planned = self.taken = 60.0
+        self.planned = self.taken = SECONDS_OF_TRUST
         processors = f"{plan.jobs} idle processor{'s' * (plan.jobs > 1)}"
         say(f"proving {len(plan.crates)} crates; on {processors} this takes about {told(self.left([]))}")
 
@@ -133,15 +141,29 @@ class Progress:
         return self.plan.left(self.proved, passed, self.taken / self.planned)
 
     def end(self, check, running):
-        """Says that a crate is proved, and nothing of one that was proved before."""
+        """Says that a crate is proved, and keeps the line that says so; nothing of one that was proved before."""
         now = time.monotonic()
         self.proved.add(check.crate)
-        if check.is_new:
+        if check.verdict:
+            (ROOT / "crates" / check.crate / "out" / "verdict").write_text(f"{check.verdict}\n")
             self.planned += self.plan.seconds(check.crate, check.jobs)
             self.taken += now - check.begin
             left = f", about {told(self.left(running))} left" if len(self.proved) < len(self.plan.crates) else ""
             of = f"{len(self.proved)} of {len(self.plan.crates)}"
             say(f"proved {check.crate} ({of}), {told(now - self.start)}{left}")
+
+
+def make_room():
+    """A folder for the copies, beside which nothing is left of calls that were killed."""
+    above = ROOT / ".git"
+    if not above.is_dir():
+        return pathlib.Path(tempfile.mkdtemp(prefix=ROOM))
+    for it in above.glob(f"{ROOM}*"):
+        if not pathlib.Path("/proc", it.name.removeprefix(ROOM)).exists():
+            shutil.rmtree(it, ignore_errors=True)
+    room = above / f"{ROOM}{os.getpid()}"
+    room.mkdir()
+    return room
 
 
 def move(one, other):
@@ -170,7 +192,8 @@ class Check:
     child: subprocess.Popen
     begin: float
     is_taking: bool = False
-    is_new: bool = False
+    # What the toolchain said where it proved something, and nothing where all was proved before.
+    verdict: str = ""
 
     def said(self):
         return (self.copy / "said").read_text(errors="replace").replace(str(self.copy), str(ROOT))
@@ -180,7 +203,7 @@ class Copies:
     """Copies of the crates' sources, one for each check that runs."""
 
     def __init__(self, plan):
-        self.plan, self.room, self.idle, self.count = plan, pathlib.Path(tempfile.mkdtemp(prefix="xg-prove-")), [], 0
+        self.plan, self.room, self.idle, self.count = plan, make_room(), [], 0
         # Whether the repository takes what was proved in a copy.
         self.is_shared = True
 
@@ -222,7 +245,7 @@ class Copies:
         """Has the repository take what was proved, and answers whether that goes on."""
         if check.is_taking or check.child.returncode != 0 or not self.is_shared:
             return False
-        check.is_taking, check.is_new = True, is_proved(check.said())
+        check.is_taking, check.verdict = True, verdict(check.said())
         os.close(check.lock)
         check.child = start(["lib", "--jobs", "1"], ROOT / "crates" / check.crate, check.copy / "said")
         return True
@@ -231,23 +254,26 @@ class Copies:
         """Frees the copy of a check. What it made is moved where the repository hasn't taken it."""
         self.idle.append(check.copy)
         if check.is_taking:
-            self.is_shared = not is_proved(check.said())
+            self.is_shared = not verdict(check.said())
         else:
-            check.is_new = is_proved(check.said())
+            check.verdict = verdict(check.said())
             os.close(check.lock)
         made, kept = [it / "crates" / check.crate / "out" for it in (check.copy, ROOT)]
         if not (kept / "rlib" / "stamp").exists():
             move(made, kept)
+        elif (made / "verdict").exists():
+            shutil.copy2(made / "verdict", kept / "verdict")
 
 
 def start(words, folder, said):
     streams = {"stdin": subprocess.DEVNULL, "stderr": subprocess.STDOUT}
     with open(said, "wb") as out:
-        return subprocess.Popen(["rt", *words], cwd=folder, stdout=out, **streams)
+        return subprocess.Popen([*RT, *words], cwd=folder, stdout=out, **streams)
 
 
-def is_proved(said):
-    return bool(re.search("^logic=proved", said, re.MULTILINE))
+def verdict(said):
+    found = re.findall("^logic=proved.*", said, re.MULTILINE)
+    return found[-1] if found else ""
 
 
 def prove_libraries(plan, progress, copies, running):
@@ -278,13 +304,27 @@ def prove_program(plan, progress, room):
         child.wait()
     finally:
         child.terminate()
-    check = Check(CRATE, jobs, room, -1, child, begin, is_new=True)
+    check = Check(CRATE, jobs, room, -1, child, begin)
+    check.verdict = verdict(check.said())
     # Another call of this may have built it meanwhile.
-    done = "^(logic=proved|rt: nothing has changed since the last proved build)"
-    if not re.search(done, check.said(), re.MULTILINE) or not os.access(PROGRAM, os.X_OK):
+    is_done = check.verdict or "\nrt: nothing has changed since the last proved build" in f"\n{check.said()}"
+    if not is_done or not os.access(PROGRAM, os.X_OK):
         return check.said()
+    keep_program()
     progress.end(check, [])
     return None
+
+
+def keep_program():
+    """Has the program stand where the toolchain's gate, which takes all that checks made, leaves it alone. Both names
+    are of one file, so that the launcher sets the time of both."""
+    KEPT.parent.mkdir(exist_ok=True)
+    made = KEPT.with_name(f"{CRATE}.{os.getpid()}")
+    try:
+        os.link(PROGRAM, made)
+    except OSError:
+        shutil.move(PROGRAM, made)
+    made.replace(KEPT)
 
 
 def prove():
@@ -294,19 +334,28 @@ def prove():
     try:
         return prove_libraries(plan, progress, copies, running) or prove_program(plan, progress, copies.room)
     finally:
+        # What checks made is moved back after a signal, too.
+        for it in SIGNALS:
+            signal.signal(it, signal.SIG_IGN)
         for it in running:
-            it.child.terminate()
+            it.child.kill()
+        for it in running:
             it.child.wait()
             copies.end(it)
-        shutil.rmtree(copies.room, ignore_errors=True)
+        # Many files take longer to remove than a signal may take.
+        subprocess.Popen(["rm", "-rf", copies.room], start_new_session=True)
 
 
 def main():
+    if sys.argv[1:]:
+        print("usage: tools/prove.py", file=sys.stderr)
+        return 2
     if not shutil.which("rt"):
         say("the toolchain's command rt isn't on the PATH")
         return 1
-    # What checks made is moved back on this way, too.
-    signal.signal(signal.SIGTERM, lambda *_: sys.exit(1))
+    for it in SIGNALS:
+        if signal.getsignal(it) is not signal.SIG_IGN:
+            signal.signal(it, lambda number, _: sys.exit(128 + number))
     refused = prove()
     sys.stderr.write(refused or "")
     return 1 if refused else 0
