@@ -4,16 +4,13 @@ ghost use Rattle.xg_game.specs.declared.fault.Refused.TheVariants.{File, NoMemor
 
 use def_file::FileFault;
 use std::alloc::AllocError;
-use thiserror::Error;
 
 /// Why a game isn't read.
-#[derive(Clone, Copy, Debug, PartialEq, Eq, Error)]
+#[derive(Clone, Copy, Debug, PartialEq, Eq)]
 pub enum Refused {
     /// The file's first fault.
-    #[error("{0}")]
     File(FileFault),
     /// Memory ran out.
-    #[error("want of memory")]
     NoMemory,
 }
 
