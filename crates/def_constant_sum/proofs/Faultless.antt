@@ -19,7 +19,7 @@ use Rattle.def_game_numbers.specs.Numbers.{as_file_fault, tables_of}
 use Rattle.def_game_numbers.proofs.Fractions.{tables_lowest}
 use Rattle.def_constant_sum.specs.Laws.{FaultlessGamesAreComplete}
 
-none_found : (o : Option GameFault) → as_file_fault o ≡ None → o ≡ None
+pub none_found : (o : Option GameFault) → as_file_fault o ≡ None → o ≡ None
 none_found None e = refl
 none_found (Some fault) e = cc
 

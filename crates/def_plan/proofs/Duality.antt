@@ -14,14 +14,14 @@ use Rattle.def_plan.specs.Payoff.{gain, values_after, worth, IsNoBetter, NoActio
 use Rattle.def_plan.proofs.Regroup.{regroup, over_sequences}
 
 -- the worth of a plan's sequences at the sets, and what the sets' values make of it
-abbrev at_sets : (ℕ → ℤ) → List ℕ → List PlacedSet → ℤ
+abbrev pub at_sets : (ℕ → ℤ) → List ℕ → List PlacedSet → ℤ
 at_sets w x hs = sum_over (λ h. sum_over (λ s. w s *ℤ pos (slice_index x s)) (sequences_of h)) hs
 
-abbrev of_values : List ℕ → List PlacedSet → List ℤ → ℤ
+abbrev pub of_values : List ℕ → List PlacedSet → List ℤ → ℤ
 of_values x hs values = sum_over (λ (p : PlacedSet × ℤ). p.1 *ℤ pos (slice_index x p.0.before)) (zip hs values)
 
 -- gain + of_values and root * worth 0 + at_sets are one sum in two orders
-two_orders : (sums : ℕ → ℤ) (sets : List InformationSet) (values : List ℤ) (root : ℕ) (x : List ℕ) → IsPlan sets root x
+pub two_orders : (sums : ℕ → ℤ) (sets : List InformationSet) (values : List ℤ) (root : ℕ) (x : List ℕ) → IsPlan sets root x
     → gain sums sets x +ℤ of_values x (placed sets) values
     ≡ pos root *ℤ worth sums (placed sets) values 0 +ℤ at_sets (worth sums (placed sets) values) x (placed sets)
 two_orders sums sets values root x plan =

@@ -1,0 +1,4 @@
+pub mod Range
+pub mod Promise
+pub mod Laws
+pub mod Rows
