@@ -1,0 +1,9 @@
+pub mod Counts
+pub mod Meanings
+pub mod Lines
+pub mod Bounds
+pub mod Parts
+pub mod Checks
+pub mod Lengths
+pub mod Ranges
+pub mod Offers
