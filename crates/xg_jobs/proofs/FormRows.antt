@@ -14,7 +14,6 @@ use Rattle.xg_seq.specs.Leaves.{HasSequences}
 use Rattle.xg_jobs.specs.Entries.{KeepsGroups}
 use Rattle.xg_jobs.specs.Groups.{GroupLeaf, group_at, group_sum, groups_mass, greatest_of, parts_sum, weights_of}
 use Rattle.xg_jobs.specs.Grouping.{entries_with, entry_of, leaves_of_sequence, pair_weights, weights_in}
-use Rattle.xg_jobs.specs.Rows.{AreNumbersOf}
 use Rattle.xg_jobs.specs.Writing.{CanWrite}
 use Rattle.xg_jobs.proofs.Building.{entries_within}
 use Rattle.xg_jobs.proofs.Columns.{parts_are_leaf_sum}
@@ -63,12 +62,12 @@ can_write bound starts there entries leaves form x y others mass starts_are entr
     ))
 
 -- there always is in 128 bits
-pub wide_room : (starts : List ℕ) (entries : List GroupLeaf) (form : SequenceForm) (x y : List ℕ) (others mass : ℕ)
-    → KeepsGroups starts entries others mass → AreNumbersOf form x y
+pub wide_room : (starts : List ℕ) (entries : List GroupLeaf) (x y : List ℕ) (others mass : ℕ)
+    → KeepsGroups starts entries others mass → All (λ n. n ≤ most_root) x → All (λ n. n ≤ most_root) y
     → mass * max (greatest_of x) (greatest_of y) < 2 ^ 127
-wide_room starts entries form x y others mass kept numbers =
+wide_room starts entries x y others mass kept small_one small_two =
     let most : ℕ = max (greatest_of x) (greatest_of y) in
-    let low : most ≤ most_root = both_within x y most_root numbers.small_one numbers.small_two in
+    let low : most ≤ most_root = both_within x y most_root small_one small_two in
     let both : mass * most ≤ most_mass * most_root = mul-le-mul kept.light low in
     omega (arith, both)
 

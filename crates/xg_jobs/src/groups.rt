@@ -2,7 +2,9 @@
 ghost use Rattle.std.specs.Prelude.{◌≡◌, ◌↔◌, ◌*◌, ◌^◌, ◌<◌, ◌≤◌, max, All, IfOk, IsTrue, length, map};
 ghost use Rattle.def_sums.specs.Limits.{most_root};
 ghost use Rattle.def_tree.specs.declared.Player.TheVariants.{One};
-ghost use Rattle.def_plan.specs.Form.{sequence_count};
+ghost use Rattle.def_tree.specs.Opponent.{opponent};
+ghost use Rattle.def_plan.specs.Form.{player_sets, sequence_count};
+ghost use Rattle.def_plan.specs.FormRows.{player_rows};
 ghost use Rattle.def_plan.specs.Payoff.{mass_of};
 ghost use Rattle.xg_jobs.specs.Entries.{AreGroupsOf};
 ghost use Rattle.xg_jobs.specs.Grouping.{pair_weights};
@@ -12,12 +14,12 @@ ghost use Rattle.xg_jobs.specs.Rows.{AreNumbersOf, ArePlainSums};
 
 use crate::entry::{GroupEntries, GroupEntry, SmallEntry, WideEntry};
 use crate::grouping::{entries_of, starts_of};
-use crate::input::RowInput;
+use crate::input::{PlayerInput, RowInput};
 use crate::merging::{Grouped, merged};
 use crate::packing::MergedEntry;
 use crate::rows::{Rows, SmallRows};
 use crate::sizes::{greatest_number, total_mass};
-use crate::writing::{write_rows, write_small_rows};
+use crate::writing::{write_alone, write_rows, write_small_rows};
 use def_sums::MOST_ROOT;
 use def_tree::Player;
 use std::alloc::{AllocError, Global};
@@ -132,6 +134,71 @@ impl LeafGroups {
             GroupEntries::Tiny(entries) => write_small_rows(starts, entries, input, rows),
             GroupEntries::Small(entries) => write_small_rows(starts, entries, input, rows),
             GroupEntries::Wide(entries) => write_small_rows(starts, entries, input, rows),
+        }
+        true
+    }
+
+    /// Writes for each sequence of one player the sum over its leaves against the other player's numbers. Takes no
+    /// memory.
+    pub(crate) fn write_rows_of(
+        &self,
+        form: &SeqForm,
+        player: Player,
+        against: &[u64],
+        rows: &mut [i128],
+    )
+        requires groups { self.now.weights ≡ pair_weights form.now One }
+        requires numbers { length against.now ≡ sequence_count (player_sets form.now (opponent player)) }
+        requires small { All (λ n. n ≤ most_root) against.now }
+        requires count { length rows.old ≡ sequence_count (player_sets form.now player) }
+        ensures { rows.new ≡ player_rows form.now player against.now }
+    {
+        form.facts();
+        let input = PlayerInput {
+            form,
+            player,
+            against,
+        };
+        rows.fill(0);
+        let starts = &self.starts;
+        match &self.entries {
+            GroupEntries::Tiny(entries) => write_alone(starts, entries, &input, rows),
+            GroupEntries::Small(entries) => write_alone(starts, entries, &input, rows),
+            GroupEntries::Wide(entries) => write_alone(starts, entries, &input, rows),
+        }
+    }
+
+    /// The same in 64 bits, if it is known that each sum has room in them.
+    pub(crate) fn write_small_rows_of(
+        &self,
+        form: &SeqForm,
+        player: Player,
+        against: &[u64],
+        rows: &mut [i64],
+    ) -> bool
+        requires groups { self.now.weights ≡ pair_weights form.now One }
+        requires numbers { length against.now ≡ sequence_count (player_sets form.now (opponent player)) }
+        requires small { All (λ n. n ≤ most_root) against.now }
+        requires count { length rows.old ≡ sequence_count (player_sets form.now player) }
+        ensures fits { IsTrue result ↔ self.now.mass * greatest_of against.now < 2 ^ 63 }
+        ensures sums { IsTrue result → rows.new ≡ player_rows form.now player against.now }
+        ensures count { length rows.new ≡ length rows.old }
+    {
+        form.facts();
+        if !sums_fit_word(self.mass, against, against) {
+            return false;
+        }
+        let input = PlayerInput {
+            form,
+            player,
+            against,
+        };
+        rows.fill(0);
+        let starts = &self.starts;
+        match &self.entries {
+            GroupEntries::Tiny(entries) => write_alone(starts, entries, &input, rows),
+            GroupEntries::Small(entries) => write_alone(starts, entries, &input, rows),
+            GroupEntries::Wide(entries) => write_alone(starts, entries, &input, rows),
         }
         true
     }

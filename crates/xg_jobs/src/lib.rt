@@ -1,6 +1,7 @@
 #![tactic(auto)]
 //! The jobs of a game's tree, and the rows of its sequence form: for each sequence the sum over its leaves.
 
+mod alone;
 mod both;
 mod cutting;
 mod entry;

@@ -1,12 +1,14 @@
 //! The table of a game's jobs.
-ghost use Rattle.std.specs.Prelude.{◌≡◌, ◌↔◌, ◌*◌, ◌-◌, ◌^◌, ◌<◌, ◌≤◌, length, max, IfOk, IsTrue, OnErr, OnOk, Some, map, slice_get, slice_index_or};
+ghost use Rattle.std.specs.Prelude.{◌≡◌, ◌↔◌, ◌*◌, ◌-◌, ◌^◌, ◌<◌, ◌≤◌, All, length, max, IfOk, IsTrue, OnErr, OnOk, Some, map, slice_get, slice_index_or};
 ghost use Rattle.def_history.specs.Jobs.{most_jobs};
 ghost use Rattle.def_history.specs.Leaves.{amounts};
 ghost use Rattle.def_history.specs.Packets.{IsPacketOf};
 ghost use Rattle.def_history.specs.JobPackets.{packet_of};
 ghost use Rattle.def_history.specs.JobRows.{leaf_amount};
-ghost use Rattle.def_plan.specs.Form.{sequence_count};
-ghost use Rattle.def_plan.specs.FormRows.{row_count};
+ghost use Rattle.def_sums.specs.Limits.{most_root};
+ghost use Rattle.def_tree.specs.Opponent.{opponent};
+ghost use Rattle.def_plan.specs.Form.{player_sets, sequence_count};
+ghost use Rattle.def_plan.specs.FormRows.{player_rows, row_count};
 ghost use Rattle.xg_jobs.specs.Rows.{AreNumbersOf, ArePlainSums};
 ghost use Rattle.xg_touched.specs.Touched.{job_rows};
 ghost use Rattle.xg_jobs.specs.Groups.{greatest_of};
@@ -17,6 +19,7 @@ use crate::groups::LeafGroups;
 use crate::input::RowInput;
 use crate::rows::{Rows, SmallRows};
 use crate::touching::{most_rows, touched_of};
+use def_tree::Player;
 use std::alloc::{AllocError, Global};
 use std::marker::Model;
 use xg_rowcore::Packet;
@@ -179,5 +182,36 @@ impl JobTable {
         ensures count_two { length rows.new.two ≡ length rows.old.two }
     {
         self.groups.write_small_to(input, rows)
+    }
+
+    /// Writes the leaf sum of each sequence of one player against the other player's numbers, in player one's payoff.
+    /// Takes no memory.
+    pub fn write_rows_of(&self, form: &SeqForm, player: Player, against: &[u64], rows: &mut [i128])
+        requires table { HasLeavesOf form.now self.now }
+        requires numbers { length against.now ≡ sequence_count (player_sets form.now (opponent player)) }
+        requires small { All (λ n. n ≤ most_root) against.now }
+        requires count { length rows.old ≡ sequence_count (player_sets form.now player) }
+        ensures { rows.new ≡ player_rows form.now player against.now }
+    {
+        self.groups.write_rows_of(form, player, against, rows)
+    }
+
+    /// Writes the same in 64 bits, if it is known that each sum has room in them. Takes no memory.
+    pub fn write_small_rows_of(
+        &self,
+        form: &SeqForm,
+        player: Player,
+        against: &[u64],
+        rows: &mut [i64],
+    ) -> bool
+        requires table { HasLeavesOf form.now self.now }
+        requires numbers { length against.now ≡ sequence_count (player_sets form.now (opponent player)) }
+        requires small { All (λ n. n ≤ most_root) against.now }
+        requires count { length rows.old ≡ sequence_count (player_sets form.now player) }
+        ensures fits { IsTrue result ↔ self.now.mass * greatest_of against.now < 2 ^ 63 }
+        ensures sums { IsTrue result → rows.new ≡ player_rows form.now player against.now }
+        ensures count { length rows.new ≡ length rows.old }
+    {
+        self.groups.write_small_rows_of(form, player, against, rows)
     }
 }

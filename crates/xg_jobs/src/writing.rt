@@ -1,16 +1,20 @@
 //! All rows from the groups, in either width.
-ghost use Rattle.std.specs.Prelude.{◌≡◌, ℕ, ◌^◌, length, map, pos};
-ghost use Rattle.def_plan.specs.Form.{sequence_count};
+ghost use Rattle.std.specs.Prelude.{◌≡◌, ℕ, ◌^◌, ◌≤◌, All, length, map, pos};
+ghost use Rattle.def_sums.specs.Limits.{most_root};
+ghost use Rattle.def_tree.specs.Opponent.{opponent};
+ghost use Rattle.def_plan.specs.Form.{player_sets, sequence_count};
 ghost use Rattle.def_plan.specs.FormRows.{amount_of, player_rows};
 ghost use Rattle.def_tree.specs.declared.Player.TheVariants.{One, Two};
 ghost use Rattle.xg_jobs.specs.Rows.{AreNumbersOf, ArePlainSums};
 ghost use Rattle.xg_jobs.specs.Writing.{CanWrite};
 
+use crate::alone::{spread_groups, sum_groups};
 use crate::both::both_rows;
 use crate::entry::GroupEntry;
-use crate::input::RowInput;
+use crate::input::{PlayerInput, RowInput};
 use crate::row::Row;
 use crate::rows::{Rows, SmallRows};
+use def_tree::Player;
 
 /// Writes the rows of both players by one pass over player one's groups. Takes no memory.
 pub(crate) fn write_rows<E: GroupEntry>(
@@ -67,4 +71,29 @@ fn sum_rows<E: GroupEntry, R: Row>(
 {
     let RowInput { one, two, .. } = *input;
     both_rows(starts, entries, one, two, own, other);
+}
+
+/// Writes one player's rows, which begin with 0. Takes no memory.
+pub(crate) fn write_alone<E: GroupEntry, R: Row>(
+    starts: &[u32],
+    entries: &[E],
+    input: &PlayerInput<'_>,
+    rows: &mut [R],
+)
+    requires numbers { length input.now.against.now ≡ sequence_count (player_sets input.now.form.now (opponent input.now.player)) }
+    requires small { All (λ n. n ≤ most_root) input.now.against.now }
+    requires can { CanWrite R.limit starts.now (map E.leaf entries.now) input.now.form.now input.now.against.now input.now.against.now }
+    requires count { length rows.old ≡ sequence_count (player_sets input.now.form.now input.now.player) }
+    requires zeros { (b : ℕ) → amount_of (map R.amount rows.old) b ≡ pos 0 }
+    ensures { map R.amount rows.new ≡ player_rows input.now.form.now input.now.player input.now.against.now }
+{
+    let PlayerInput {
+        player,
+        against,
+        ..
+    } = *input;
+    match player {
+        Player::One => sum_groups(starts, entries, against, rows),
+        Player::Two => spread_groups(starts, entries, against, rows),
+    }
 }

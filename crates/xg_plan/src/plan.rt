@@ -54,7 +54,15 @@ impl Plan {
         requires { length self.old ≡ length plan.now }
         ensures { self.new ≡ plan.now }
     {
-        self.weights.copy_from_slice(&plan.weights);
+        self.copy_weights(&plan.weights);
+    }
+
+    /// Gives each sequence its number of these, the root first. Takes no memory.
+    pub fn copy_weights(&mut self, weights: &[u64])
+        requires { length self.old ≡ length weights.now }
+        ensures { self.new ≡ weights.now }
+    {
+        self.weights.copy_from_slice(weights);
     }
 
     /// Gives each sequence 0.

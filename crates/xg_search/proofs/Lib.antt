@@ -1,0 +1,3 @@
+pub mod FirstPlans
+pub mod Placing
+pub mod RowSizes
