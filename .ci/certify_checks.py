@@ -1,5 +1,7 @@
 """Checks of `certify`, without the program: profiles of all forms, what they come to, and what is refused."""
+import json
 import pathlib
+import random
 import re
 import tempfile
 from fractions import Fraction
@@ -10,10 +12,12 @@ from tool_calls import tool
 
 import certificate  # noqa: E402
 import efg  # noqa: E402
+import plans  # noqa: E402
 
 GAMES, TEXTS = ROOT / "games", ROOT / ".ci" / "tool_texts"
 KUHN = GAMES / "kuhn_poker.efg"
 NOTHING = b"certify: nothing was rounded\n"
+NO_BOUND = b"certify: rounding to whole numbers changed no bound\n"
 FINEST = 2**36
 
 # A game whose names have commas and quotes, one name twice, names that are numbers, and a set that may be missed.
@@ -56,7 +60,56 @@ NAMES_FORMS = [
     ("its end in CRLF, with a mark", "\ufeff\r\nNE,0.25,0.75,1,0,0.5,0,0.5,0,1,0,1\r\n"),
 ]
 
+# A prime past all scales; and probabilities with the scale and the rounds of their root.
+PAST = 1_048_583
+ROOTS = [
+    ("1/3,1/3,1/3", 2**20, 65_535),
+    ("1/7,2/7,4/7", 2**20, 65_534),
+    ("1/65537,0,65536/65537", 15 * 65_537, 65_536),
+    ("1/65539,2/65539,65536/65539", 15 * 65_539, 65_536),
+    ("1/1048573,0,1048572/1048573", 1_048_573, 65_536),
+    ("1/68703551533,0,68703551532/68703551533", 1_048_573, 65_521),
+]
+# Two primes that are scales, and no scale has both.
+APART = 1_048_573, 1_048_571
+NO_SCALE = "no scale serves both plans; --player 1 and --player 2 take one alone, and round nothing"
+COLUMNS = b"player,set,action,probability\n"
+# A game whose names can't all stand in a table, with a profile and its table.
+STRANGE = b"""\
+EFG 2 R "Strange" { "A" "B" }
+p "" 1 3 "12" { "2" "1" } 0
+p "" 2 8 "b" { " x" "x" "" } 0
+t "" 1 { 1, -1 }
+t "" 2 { -1, 1 }
+t "" 0
+p "" 2 9 "a, \\"b\\"" { "\xff" "say \\"no\\", or not" } 0
+p "" 1 4 "13" { "one
+line" "two" } 0
+t "" 1
+t "" 2
+p "" 1 7 "14" { "say \\"no\\", or not" "\xc3\xa9" } 0
+t "" 2
+t "" 1
+"""
+STRANGE_LINE = b"NE,1/3,2/3,1,0,1/3,2/3,1/3,2/3,0,1,0\n"
+STRANGE_ROWS = [
+    "player,set,action,probability",
+    "1,3,2,1/3",
+    "1,3,1,2/3",
+    "1,4,1,1",
+    "1,4,2,0",
+    '1,7,"say ""no"", or not",1/3',
+    "1,7,\u00e9,2/3",
+    "2,b,1,1/3",
+    "2,b,2,2/3",
+    "2,b,3,0",
+    '2,"a, ""b""",1,1',
+    '2,"a, ""b""",2,0',
+]
+STRANGE_TABLE = "".join(line + "\n" for line in STRANGE_ROWS).encode()
+
 KUHN_LINE = "NE," + ",".join(["1/2"] * 24)
+WHOLE = "a header has the columns player, set, action and probability, in any order"
 NAMES_OF = "player 1's set 7 \"go, or \\\"stay\\\"\""
 # A profile of the game above, and the line with which it is refused.
 REFUSED = [
@@ -79,8 +132,14 @@ REFUSED = [
     ('1,"7"7,1,1/2', "line 1: ',' expected after '\"'"),
     ('1,7,1,1/2\n1,"7,2,1/2\n', "line 2: unexpected end of data"),
     ("3,7,1,1", 'line 1: "3" is no player: 1, 2 or one of their names is needed'),
-    ("players,set,action,probability\n1,7,1,1", 'line 1: "players" is no player: 1, 2 or one of their names is needed'),
-    ("player,set,action,prob\n1,7,1,1", 'line 1: "player" is no player: 1, 2 or one of their names is needed'),
+    ("players,set,action,probability\n1,7,1,1", f'line 1: {WHOLE}; this one lacks player and has "players"\n'),
+    ("player,set,action,prob\n1,7,1,1", f'line 1: {WHOLE}; this one lacks probability and has "prob"\n'),
+    ("\n Player ,ACTION,set\n1,1,7", f"line 2: {WHOLE}; this one lacks probability\n"),
+    ("player,set,action,probability,note\n1,7,1,1,x", f'line 1: {WHOLE}; this one has "note"\n'),
+    ("player,set,set,action,probability\n", f"line 1: {WHOLE}; this one has one of them twice\n"),
+    ("player;set;action;probability\n1;7;1;1", f"line 1: {WHOLE}; this one lacks player and set and action and"),
+    ("set,7,1,1", 'line 1: "set" is no player: 1, 2 or one of their names is needed'),
+    ("1,7,1,1/4\nplayer,set,action,p", 'line 2: "player" is no player: 1, 2 or one of their names is needed'),
     ("1,7,1,-1/4", "line 1: the probability -1/4 is below 0"),
     ("1,7,1,1.01", "line 1: the probability 1.01 is above 1"),
     ("1,7,1,1/0", 'line 1: "1/0" isn\'t a probability'),
@@ -164,6 +223,143 @@ def round_trips(checks):
         checks.that(f"{name}, the replies", same_ends(old, new), "they differ")
 
 
+def tables(checks, folder):
+    """A table that was printed of a text comes back with its plans: of texts, of strange names, of random games."""
+    texts = [(GAMES / f"{it.name.split('.')[0].split('_version')[0]}.efg", it.read_bytes()) for it in TEXTS.glob("*.xg*")]
+    for game, told in texts:
+        _, table, said = tool("plan_table", "--csv", game, stdin=told)
+        checks.that(f"a table of {game.name}", said == b"" and table.startswith(COLUMNS), f"{table} {said}")
+        same_plans(checks, f"the table of {game.name}", told, *tool("certify", game, stdin=table))
+    checks.that("all texts", len(texts) == 7, f"{len(texts)}")
+    strange = [(NAMES, NAMES_FORMS[0][1].encode()), (STRANGE, STRANGE_LINE)]
+    strange += [(it.data(), profile_of({k: it.strategy(k) for k in (1, 2)})) for it in small_games(60)]
+    file = folder / "named.efg"
+    for data, profile in strange:
+        file.write_bytes(data)
+        told = tool("certify", file, stdin=profile)[1]
+        table = tool("plan_table", "--csv", file, stdin=told)[1]
+        again = tool("certify", file, stdin=table)
+        same_plans(checks, f"the table of\n{data}", told, *again)
+    file.write_bytes(STRANGE)
+    table = tool("plan_table", "--csv", file, stdin=tool("certify", file, stdin=STRANGE_LINE)[1])[1]
+    checks.that("a table of strange names", table == STRANGE_TABLE, f"{table}")
+    rounded = tool("plan_table", "--csv", "--decimals=3", file, stdin=tool("certify", file, stdin=STRANGE_LINE)[1])[1]
+    wanted = STRANGE_TABLE.replace(b"1/3", b"0.333").replace(b"2/3", b"0.667").replace(b",1\n", b",1.000\n")
+    checks.that("a table of decimals", rounded == wanted.replace(b",0\n", b",0.000\n"), f"{rounded}")
+
+
+def same_plans(checks, what, told, status, out, said):
+    """What came back has the plans of a text and its bracket. A plan that was rounded is rounded again."""
+    old = certificate.read_text(told)
+    new = certificate.read_text(out) if status == 0 else None
+    checks.expect(what, (status, said), 0, NOTHING)
+    if new is not None:
+        found = (new.low, new.high), new.bracket_of_two()
+        checks.that(f"{what}, its bracket", found == ((old.low, old.high), old.bracket_of_two()), f"{found}")
+        checks.that(f"{what}, its ends", same_ends(old, new), "they differ")
+
+
+def texts(checks, folder):
+    """A text of `solve` or `plus` as it stands becomes a certificate of its plans, or of one of them."""
+    for file in sorted(TEXTS.glob("*.xg*")):
+        game, told = GAMES / f"{file.name.split('.')[0].split('_version')[0]}.efg", file.read_bytes()
+        made = tool("certify", game, "--text", file)
+        same_plans(checks, f"{file.name} by --text", told, *made)
+        from_stream = tool("certify", "--text", "-", game, stdin=told)
+        checks.that(f"{file.name} from a stream", from_stream == made, f"{from_stream}")
+        old = certificate.read_text(told)
+        for player in (1, 2):
+            status, out, said = tool("certify", game, f"--player={player}", "--text", file)
+            new, both = (certificate.read_text(it) for it in (out, made[1]))
+            ends = ((old.low, new.low), (old.high, new.high))[player - 1]
+            checks.that(f"{file.name}, player {player}", status == 0 and ends[0] == ends[1], f"{ends} {said}")
+            one, two = new.ends[player - 1], both.ends[player - 1]
+            is_same = end_times(one, two.root) == end_times(two, one.root)
+            checks.that(f"{file.name}, player {player}'s plan", is_same, out.decode())
+    texts_that_differ(checks, folder)
+    profile = tool("certify", KUHN, TEXTS / "kuhn_poker.xgcert")
+    why = b"this is a text of solve or plus, and no profile; --text takes it\n"
+    checks.that("a text as a profile", profile[:2] == (1, b"") and profile[2].endswith(why), f"{profile}")
+    checks.that("a text and a profile", tool("certify", KUHN, "-", "--text", "-")[0] == 2, "both are taken")
+
+
+def texts_that_differ(checks, folder):
+    """A text of another game has no plans here; one whose bracket isn't its plans' own is taken, and it is said."""
+    told, file = (TEXTS / "kuhn_poker.xgcert").read_bytes(), folder / "text"
+    for what, old, new, why in [
+        ("another unit", b"unit 6", b"unit 7", "its unit, its sum or its mass isn't that of the game file"),
+        ("another mass", b"mass 42", b"mass 43", "its unit, its sum or its mass isn't that of the game file"),
+        ("another sum", b"sum 0", b"sum 1", "its unit, its sum or its mass isn't that of the game file"),
+        ("other nodes", b"nodes 58", b"nodes 59", "it says nodes 59, the game file 58"),
+        ("no plan", b"weights 2 6160384", b"weights 2 6160385", "the weights of player 1's set 4 add up to 6422529"),
+        ("no text", b"XGCERT", b"XGCARD", "line 1 isn't the first line of a text"),
+    ]:
+        file.write_bytes(told.replace(old, new))
+        status, out, said = tool("certify", KUHN, "--text", file)
+        is_line = said.startswith(b"certify: %s: " % bytes(file)) and said.count(b"\n") == 1
+        checks.that(what, (status, out) == (1, b"") and is_line and why.encode() in said, f"{status} {said}")
+    file.write_bytes(re.sub(rb"bracket (\S+) (\S+)", rb"bracket \1 0", told))
+    wanted = tool("certify", KUHN, stdin=tool("plan_table", "--csv", KUHN, TEXTS / "kuhn_poker.xgcert")[1])[1]
+    line = b"certify: the text says HIGH 0, and its plans have 7/96\n"
+    checks.expect("another bracket", tool("certify", KUHN, "--text", file), 0, wanted, NOTHING + line)
+    status, _, said = tool("certify", "--player=1", KUHN, "--text", file)
+    checks.that("another bracket of the other player", status == 0 and b"the text says" not in said, f"{said}")
+
+
+def objects(checks, folder):
+    """What a text says as an object is what stands in its lines."""
+    for file in sorted(TEXTS.glob("*.xg*")):
+        game_file = GAMES / f"{file.name.split('.')[0].split('_version')[0]}.efg"
+        status, out, said = tool("plan_table", "--json", game_file, file)
+        checks.expect(f"{file.name} as an object", (status, said), 0, b"")
+        told, text = json.loads(out), certificate.read_text(file.read_bytes())
+        for what, found, wanted in object_parts(told, text):
+            checks.that(f"{file.name}, {what}", found == wanted, f"{found}, want {wanted}")
+        decimals = [it for it in re.findall(rb'"fraction": "(.*)",\n\s*"decimal": (.*)\n', out)]
+        near = all(float(Fraction(one.decode())) == float(two) for one, two in decimals)
+        checks.that(f"{file.name}, its decimals", near and len(decimals) > 10, f"{len(decimals)}")
+    kuhn = json.loads(tool("plan_table", "--json", KUHN, TEXTS / "kuhn_poker.xgcert")[1])
+    first = kuhn["plans"][0]["sets"][0]
+    wanted = {"action": 2, "name": "bet", "weight": 1966080, "probability": {"fraction": "15/64", "decimal": 0.234375}}
+    checks.that("a set by name", (first["name"], first["actions"][1]) == ("holds the Jack", wanted), f"{first}")
+    named = kuhn["game"]["players"], kuhn["replies"][0]["name"], kuhn["replies"][0]["sets"][0]["action"]
+    checks.that("names", named == (["First", "Second"], "Second", "check"), f"{named}")
+    toll = json.loads(tool("plan_table", "--json", GAMES / "toll.efg", TEXTS / "toll.xgcert")[1])
+    missed = [it for it in toll["plans"][0]["sets"] if not it["reached"]]
+    is_none = [it["probability"] for own in missed for it in own["actions"]]
+    checks.that("a set not reached", is_none and not any(is_none), f"{missed}")
+    checks.that("decimals of an object", tool("plan_table", "--json", "--decimals=2", KUHN)[0] == 2, "they are taken")
+    checks.that("two forms", tool("plan_table", "--json", "--csv", KUHN)[0] == 2, "they are taken")
+
+
+def object_parts(told, text):
+    """The parts of an object, with what a text's lines have there."""
+    head = told["head"]
+    yield "the head", [head[it] for it in ("nodes", "leaves", "sets", "sequences", "rounds", "every", "scale")], [
+        *(text.nodes, text.leaves, list(text.sets), list(text.sequences), text.rounds, text.every, text.scale)
+    ]
+    numbers = int(head["unit"]), int(head["mass"]), Fraction(head["sum"]["fraction"])
+    yield "the numbers", numbers, (text.unit, text.mass, text.sum)
+    names = ("round", "low_round", "low_total", "high_round", "high_total")
+    yield "the trace", [tuple(int(it[name]) for name in names) for it in told["trace"]], text.trace
+    for name, wanted in (("bracket", (text.low, text.high)), ("second", text.bracket_of_two())):
+        yield name, tuple(Fraction(told[name][it]["fraction"]) for it in ("low", "high")), wanted
+    last = [Fraction(told["trace"][-1][it]["fraction"]) for it in ("low", "high")]
+    yield "the end of the trace", last, [text.low, text.high]
+    for k, end in enumerate(text.ends):
+        plan, reply = told["plans"][k], told["replies"][k]
+        yield "the roots", plan["root"], end.root
+        weights = [[it["weight"] for it in own["actions"]] for own in plan["sets"]]
+        yield f"plan {k + 1}", weights, end.weights
+        chances = [[it["probability"] for it in own["actions"]] for own in plan["sets"]]
+        spelled = [[it and Fraction(it["fraction"]) for it in own] for own in chances]
+        befores = [own["weight"] for own in plan["sets"]]
+        wanted = [[Fraction(w, n) if n else None for w in own] for n, own in zip(befores, end.weights)]
+        yield f"the probabilities of plan {k + 1}", spelled, wanted
+        found = int(reply["total"]), [(int(it["value"]), it["choice"]) for it in reply["sets"]]
+        yield f"the reply to plan {k + 1}", found, (end.total, end.replies)
+
+
 def same_ends(old, new):
     """Whether the plans and replies of two texts are the same, but for their roots."""
     for one, two in zip(old.ends, new.ends):
@@ -180,10 +376,10 @@ def end_times(end, factor):
 def against_pure(checks, folder):
     """What is printed of random strategies is what all pure strategies of the other player say, but for rounding."""
     file = folder / "small.efg"
-    rounded = 0
-    for game in small_games(60):
+    rounded = same = 0
+    for number, game in enumerate(small_games(60)):
         file.write_bytes(game.data())
-        strategies = {player: game.strategy(player) for player in (1, 2)}
+        strategies = {player: game.strategy(player, *[(0, 1, PAST)] * (number % 2)) for player in (1, 2)}
         status, out, said = tool("certify", file, stdin=profile_of(strategies))
         text = certificate.read_text(out)
         checks.that(f"the sum of\n{game.data().decode()}", text.sum == game.sum, f"{text.sum}, {game.sum}")
@@ -197,10 +393,13 @@ def against_pure(checks, folder):
             alone = tool("certify", f"--player={player}", file, stdin=profile_of(strategies, [player]))[1]
             one, both = (certificate.read_text(it).ends[player - 1] for it in (alone, out))
             where = f"player {player} of\n{game.data().decode()}"
-            is_same = one.root == both.root and end_times(one, 1) == end_times(both, 1)
-            checks.that(f"{where} alone", is_same, alone.decode())
+            is_same = end_times(one, both.root) == end_times(both, one.root)
+            is_finer = one.root != both.root and ("LOW", "HIGH")[player - 1] in most
+            checks.that(f"{where} alone", is_same or is_finer, alone.decode())
+            same += is_same
             checks.that(f"the answer to {where}", is_answer(game, certificate.read_text(alone), player), alone.decode())
-    checks.that("some were rounded", rounded >= 10, f"{rounded}")
+    checks.that("some were rounded", 10 <= rounded <= 30, f"{rounded}")
+    checks.that("most are the same alone", same >= 100, f"{same}")
 
 
 def is_answer(game, text, player):
@@ -295,13 +494,18 @@ def rounding(checks, folder):
     """Where no root has a plan exactly, the finest is taken, and rounding changes less than 2^-30 of the payoffs."""
     file = folder / "one_set.efg"
     file.write_bytes(one_set(3))
-    out = tool("certify", file, stdin=b"NE,1/65539,2/65539,65536/65539")[1]
-    ends = [0, FINEST // 65539, FINEST * 3 // 65539, FINEST]
+    out = tool("certify", file, stdin=f"NE,1/{PAST},2/{PAST},{PAST - 3}/{PAST}".encode())[1]
+    ends = [0, FINEST // PAST, FINEST * 3 // PAST, FINEST]
     dealt = " ".join(str(end - start) for start, end in zip(ends, ends[1:]))
     checks.that("shares", f"\nweights 1 {dealt}\n".encode() in out, f"{out}, want {dealt}")
-    for told, root in (("1/3,1/3,1/3", 65535), ("1/7,2/7,4/7", 65534), ("1/65537,0,65536/65537", 65536)):
-        out = tool("certify", file, stdin=f"NE,{told}".encode())[1]
-        checks.that(f"the root of {told}", f"\nplan 1 {root * 2**20}\n".encode() in out, out.decode())
+    for told, scale, rounds in ROOTS:
+        _, out, said = tool("certify", file, stdin=f"NE,{told}".encode())
+        lines = f" scale {scale}\n", f"\nplan 1 {rounds * scale}\n"
+        checks.that(f"the root of {told}", all(it.encode() in out for it in lines), out.decode())
+        checks.that(f"{told} isn't rounded", said == NOTHING, said.decode())
+    # Two primes past the rounds: a root below the greatest, and no scale has it.
+    out = tool("certify", file, stdin=f"NE,1/{131_101 * 131_111},0,{131_101 * 131_111 - 1}/{131_101 * 131_111}".encode())
+    checks.that("a root of no scale", b" scale 1048576\n" in out[1] and out[2] == NO_BOUND, f"{out}")
     for game in sorted(GAMES.glob("*.efg")):
         sets = efg.read_game(game.read_bytes()).sets
         parts = [(3 * k + 1) / 7919 for k in range(20)]
@@ -318,9 +522,44 @@ def rounding(checks, folder):
         checks.that(f"the roots of {game.name}", roots == [FINEST, FINEST], f"{roots}")
 
 
+def apart(checks, _):
+    """Where each plan has a scale and no scale has both, one is whole, the other one rounded, and it is said."""
+    one, two = APART
+    profile = f"NE,1/{one},{one - 1}/{one},1/{two},{two - 1}/{two}".encode()
+    status, out, said = tool("certify", GAMES / "pennies.efg", stdin=profile)
+    text, lines = certificate.read_text(out), said.decode().splitlines()
+    checks.that("plans apart, the first", status == 0 and text.low == Fraction(2, one) - 1, f"{text.low} {said}")
+    is_said = len(lines) == 2 and lines[0].startswith("certify: rounding to whole numbers changed HIGH by at most ")
+    checks.that("plans apart, what is said", is_said and lines[1] == f"certify: {NO_SCALE}", f"{lines}")
+    most = Fraction(re.search(r"HIGH by at most (\S+)", lines[0])[1])
+    checks.that("plans apart, the second", 0 < abs(text.high - (1 - Fraction(2, two))) <= most, f"{text.high}")
+    for player, prime in ((1, one), (2, two)):
+        status, out, said = tool("certify", f"--player={player}", GAMES / "pennies.efg", stdin=profile)
+        text = certificate.read_text(out)
+        checks.that(f"plan {player} alone", status == 0 and said.endswith(NOTHING) and text.scale == prime, f"{said}")
+
+
+def scales(checks, _):
+    """The scale that is found is the greatest of all that serve, by trying each of them, at small limits."""
+    most = plans.MOST_ROUNDS, plans.MOST_SCALE
+    plans.MOST_ROUNDS, plans.MOST_SCALE = 16, 60
+    chosen, found = random.Random(7), {True: 0, False: 0}
+    for _ in range(2_000):
+        roots = [chosen.randint(1, 16 * 60) for _ in range(chosen.randint(1, 2))]
+        serving = [it for it in range(1, 61) if all(any(it * k % root == 0 for k in range(1, 17)) for root in roots)]
+        scale = plans.serving_scale(roots)
+        checks.that(f"the scale of {roots}", scale == max(serving, default=None), f"{scale}, want {serving[-1:]}")
+        found[scale is None] += 1
+        for root in roots if scale else []:
+            rounds = max(k for k in range(1, 17) if scale * k % root == 0)
+            checks.that(f"the rounds of {root}", plans.rounds_for(root, scale) == rounds, f"want {rounds} of {scale}")
+    plans.MOST_ROUNDS, plans.MOST_SCALE = most
+    checks.that("some have a scale, and some none", min(found.values()) >= 200, f"{found}")
+
+
 def certify_checks(checks):
     with tempfile.TemporaryDirectory() as name:
         folder = pathlib.Path(name)
         round_trips(checks)
-        for part in (against_pure, forms, refusals, sums, rounding):
+        for part in (tables, texts, objects, against_pure, forms, refusals, sums, rounding, apart, scales):
             part(checks, folder)

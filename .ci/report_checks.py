@@ -169,11 +169,13 @@ def pages(checks, folder):
 
 def one_tree(checks, page, game):
     """The tree has each node once: those with others below as details, whose summary comes first."""
-    folded = list(page.iter(f"{HTML}details"))
-    leaves = [it for it in page.iter(f"{HTML}li") if it.get("class") == "leaf"]
+    tree = next(it for it in page.iter(f"{HTML}ul") if it.get("id") == "tree")
+    folded = list(tree.iter(f"{HTML}details"))
+    leaves = [it for it in tree.iter(f"{HTML}li") if it.get("class") == "leaf"]
     counts = (len(game.nodes) - game.leaves(), game.leaves())
     checks.that("the nodes of the tree", (len(folded), len(leaves)) == counts, f"{len(folded)} {len(leaves)} {counts}")
-    checks.that("summaries come first", all(it[0].tag == f"{HTML}summary" for it in folded), "one doesn't")
+    all_folded = list(page.iter(f"{HTML}details"))
+    checks.that("summaries come first", all(it[0].tag == f"{HTML}summary" for it in all_folded), "one doesn't")
     checks.that("the root alone is unfolded", sum("open" in it.attrib for it in folded) <= 1, "others are")
 
 
@@ -202,12 +204,12 @@ def what_is_said(checks, folder):
     plain = tool("report", "--text", KUHN, stdin=wrong)[1].decode()
     # Against First's bets, a Jack with 1/3 of 1/4 and a King with 1/3 of 1/2, Second has a Queen with 1/2: 1/8. A third
     # of them are bluffs, so a call pays First 2/3 of 2 and 1/3 of -2, and a fold 1. Second folds 2/3 of the time.
-    rows = [r"Second +5 holds the Queen after a bet +call +12\.5 % +0\.027778",
+    rows = [r"First +Second +5 holds the Queen after a bet +call +12\.5 % +0\.027778",
             r"5 holds the Queen after a bet +fold +0\.666667 +1 +12\.5 % +0\.027778",
             r"5 holds the Queen after a bet +call +0\.333333 +0\.666667 +best"]
     for row in rows:
         checks.that(row, re.search(f"^{row}$", plain, re.M), plain)
-    lost = [float(it) for it in re.findall(r"%  +(\S+)$", plain.split("lose most")[1].split("\n\n")[0], re.M)]
+    lost = [float(it) for it in re.findall(r"%  +(\S+)$", plain.split("give away most")[1].split("\n\n")[0], re.M)]
     checks.that("what loses most stands first", len(lost) == 4 and lost == sorted(lost, reverse=True), f"{lost}")
     plain = tool("report", "--text", NETWORKS, TEXTS / "networks.xgcert")[1].decode()
     # LOW is about 44.2917, and HIGH 48.04996.
@@ -220,14 +222,17 @@ def what_is_said(checks, folder):
     equal = tool("certify", KUHN, GAMES / "kuhn_equilibrium.csv")[1]
     plain = tool("report", "--text", KUHN, stdin=equal)[1].decode()
     checks.that("nothing of player two where the sum is 0", "add up to" not in plain and "sure of" not in plain, plain)
-    checks.that("an equilibrium loses nothing", "No set loses anything" in plain, plain)
+    checks.that("an equilibrium gives nothing away", "Nothing is given away at any set." in plain, plain)
+    said = "\nNeither plan can be exploited: each is a best response to the other.\n"
+    checks.that("the verdict on an equilibrium", plain.count(said) == 1, plain)
     page = xml.fromstring(tool("report", GAMES / "toll.efg", TEXTS / "toll.xgcert")[1])
     missed = [it.text for it in page.iter(f"{HTML}span") if (it.text or "").startswith("never")]
     checks.that("a set that isn't reached", missed == ["never reached by its own plan"], f"{missed}")
     page = xml.fromstring(tool("report", KUHN, KUHN_TEXT)[1])
     figures = [(it.get("id"), len(list(it.iter(f"{SVG}polyline")))) for it in page.iter(f"{HTML}figure")]
     checks.that("how the bracket closed", figures == [("span", 0), ("trace", 2)], f"{figures}")
-    for text, proof in ((KUHN_TEXT, "check GAME CERT accepts"), (TEXTS / "kuhn_poker.xgplus", "text is no certificate")):
+    for text, proof in ((KUHN_TEXT, "check GAME CERT accepts"), (TEXTS / "kuhn_poker.xgplus",
+                                                                 "text is no certificate")):
         said = texts_of(xml.fromstring(tool("report", KUHN, text)[1]))
         checks.that(f"{text.name}: {proof}", said.count("The page proves nothing") == 1 and proof in said, said)
     page = xml.fromstring(tool("report", KUHN, stdin=equal)[1])
@@ -238,9 +243,57 @@ def what_is_said(checks, folder):
     page = xml.fromstring(tool("report", KUHN, stdin=wrong)[1])
     labels = {it.text for it in page.iter(f"{SVG}text")}
     checks.that("both ends of a bracket", {"LOW -0.09723", "HIGH -0.05555"} <= labels, f"{labels}")
-    ring = next(float(it.get("cx")) for it in page.iter(f"{SVG}circle"))
-    ends = [float(it.get("x")) for it in page.iter(f"{SVG}text") if it.text.startswith(("LOW", "HIGH"))]
-    checks.that("where both plans meet", abs(ring - ends[1]) < 1 and ends[1] - ends[0] > 200, f"{ring} {ends}")
+    ring = next(percentage(it.get("cx")) for it in page.iter(f"{SVG}circle"))
+    ends = [percentage(it.get("x")) for it in page.iter(f"{SVG}text") if it.text.startswith(("LOW", "HIGH"))]
+    checks.that("where both plans meet", abs(ring - ends[1]) < 0.2 and ends[1] - ends[0] > 75, f"{ring} {ends}")
+    who_is_at_fault(checks, page, wrong)
+    marks_of_span(checks, page)
+
+
+def percentage(told):
+    assert told.endswith("%"), told
+    return float(told[:-1])
+
+
+def who_is_at_fault(checks, page, wrong):
+    """The verdict stands right below the title and names, for each plan, for what it can be exploited and where. First
+    gives away 1/36 and 1/72 at Second's sets, which is a 24th, less the millionths of the decimals."""
+    heading, _, *verdict = list(page.find(f"{HTML}body"))[:4]
+    wanted = [
+        "First's plan can be exploited for 0.041667; it gives that away at Second's sets"
+        ' 5 "holds the Queen after a bet" and 1 "holds the Jack after a check".',
+        "Second's plan can be exploited for 0.000000125; it gives that away at First's sets"
+        ' 5 "holds the Queen after a check and a bet" and 3 "holds the King".',
+    ]
+    is_there = heading.tag == f"{HTML}h1" and {it.get("class") for it in verdict} == {"verdict"}
+    checks.that("the verdict", is_there and list(map(texts_of, verdict)) == wanted, f"{verdict}, want {wanted}")
+    plain = " ".join(tool("report", "--text", KUHN, stdin=wrong)[1].decode().split())
+    checks.that("the verdict in plain text", " ".join(wanted) in plain, plain)
+    checks.that("the rule of rounding", all("Rounding: LOW and other lower ends down; HIGH and other upper ends up," in it for it in (plain, texts_of(page))), plain)
+    folded = [it for it in page.iter(f"{HTML}details") if it.find(f"{HTML}table") is not None]
+    told = [texts_of(it[0]) for it in folded]
+    wanted = ["4 more sets at which Second's plan gives nothing away",
+              "4 more sets at which First's plan gives nothing away"]
+    checks.that("sets that lose nothing are folded", told == wanted, f"{told}, want {wanted}")
+    checks.that("they aren't unfolded", not any("open" in it.attrib for it in folded), "one is")
+    heads = [texts_of(it) for one in folded for it in one.iter(f"{HTML}span") if "gives away" in texts_of(it)]
+    checks.that("what is folded", len(heads) == 8 and all(it.endswith("gives away 0") for it in heads), f"{heads}")
+
+
+def marks_of_span(checks, page):
+    """Every mark below the bracket has its number, and no fraction of the table may be broken."""
+    span = next(it for it in page.iter(f"{HTML}figure") if it.get("id") == "span")
+    marks = {it.get("x1") for it in span.iter(f"{SVG}line") if it.get("x1") == it.get("x2") and it.get("y1") == "52"}
+    labels = {it.get("x"): it.text for it in span.iter(f"{SVG}text") if it.get("y") == "71"}
+    checks.that("each mark has a number", len(marks) >= 3 and marks == set(labels), f"{marks} {labels}")
+    checks.that("as wide as the page", span.find(f"{SVG}svg").get("width") == "100%", f"{span[0].attrib}")
+    table = next(it for it in page.iter(f"{HTML}table") if it.get("id") == "bracket")
+    codes = list(table.iter(f"{HTML}code"))
+    scrolled = [code for it in table.iter(f"{HTML}span") if it.get("class") == "scroll" for code in it]
+    style = texts_of(page.find(f"{HTML}head/{HTML}style"))
+    rules = "#bracket code { white-space: nowrap; }", ".scroll { display: block; overflow-x: auto; }"
+    is_told = all(it in style for it in rules)
+    checks.that("no fraction is broken", codes == scrolled and len(codes) == 6 and is_told, f"{codes} {scrolled}")
 
 
 def by_hand(checks, folder):
@@ -257,6 +310,8 @@ def by_hand(checks, folder):
         checks.that(f"pay of\n{where}", audit.pay == pay, f"{audit.pay}, want {pay}")
         for player, gain in ((1, high - pay), (2, pay - low)):
             lost = [line.lost for line in audit.lines[player]]
+            shown = [Fraction(report_words.given_away(it)) for it in lost]
+            checks.that(f"what is given away is rounded up\n{where}", all(map(is_up, shown, lost)), f"{shown} {lost}")
             is_gain = sum(lost) == gain and min(lost, default=0) >= 0
             checks.that(f"{player} loses of\n{where}", is_gain, f"{lost}, want {gain}")
             each_set(checks, audit, game, player)
@@ -267,6 +322,10 @@ def by_hand(checks, folder):
         checks.that(f"what the tree of pays\n{where}", root.pay == pay, f"{root.pay}, want {pay}")
         reached = sum(float(it.told[-1].split()[1]) for it in leaves_of(root))
         checks.that(f"how often leaves are reached of\n{where}", abs(reached - 100) < 0.5, f"{reached}")
+
+
+def is_up(shown, value):
+    return value <= shown <= value + max(value / 100, Fraction(1, 10**6))
 
 
 def leaves_of(root):
@@ -341,7 +400,8 @@ def refusals(checks, folder):
     forgets = folder / "forgets.efg"
     forgets.write_bytes(b'EFG 2 R "" { "A" "B" }\np "" 1 1 { "a" "b" } 0 p "" 1 1 0' + b' t "" 0' * 3)
     said = tool("report", forgets, stdin=told)[2]
-    checks.that("a player that forgets", said == b"report: %s: refused 18 NotRecall node 2 earlier 1\n" % bytes(forgets), str(said))
+    checks.that("a player that forgets",
+                said == b"report: %s: refused 18 NotRecall node 2 earlier 1\n" % bytes(forgets), str(said))
 
 
 def large(checks, folder):
@@ -357,7 +417,26 @@ def large(checks, folder):
         text = tool("certify", game, stdin=equal_profile(game.read_bytes()))[1]
         page = well_formed(checks, what, tool("report", game, stdin=text)[1])
         said = texts_of(page)
-        checks.that(f"{what} without a tree", why in said and not list(page.iter(f"{HTML}details")), said[-900:])
+        is_there = any(it.get("id") == "tree" for it in page.iter())
+        checks.that(f"{what} without a tree", why in said and not is_there, said[-900:])
+        has_contents = any(it.get("id") == "contents" for it in page.iter())
+        sets = len(efg.read_game(game.read_bytes()).sets[1])
+        checks.that(f"{what}: contents", has_contents == (sets > 50), f"{sets} sets")
+        if has_contents:
+            contents(checks, page)
+
+
+def contents(checks, page):
+    """A page of more than 50 sets begins with links to its parts and, folded, to every set."""
+    listed = next(it for it in page.iter(f"{HTML}ul") if it.get("id") == "contents")
+    links = [it.get("href")[1:] for it in listed.iter(f"{HTML}a")]
+    sets = [it.get("id") for it in page.iter(f"{HTML}tr") if it.get("id")]
+    checks.that("contents name each set", set(sets) <= set(links) and len(sets) > 50, f"{set(sets) - set(links)}")
+    checks.that("contents name the parts", {"bracket", "plan1", "plan2"} <= set(links), f"{links[:5]}")
+    checks.that("its sets are folded", not any("open" in it.attrib for it in listed.iter(f"{HTML}details")),
+                "they aren't")
+    headings = [texts_of(it) for it in page.iter(f"{HTML}h2")]
+    checks.that("contents come first", headings[0] == "Contents", f"{headings}")
 
 
 def report_checks(checks):

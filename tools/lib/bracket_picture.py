@@ -146,30 +146,44 @@ def picture(text, title, player, value=None, is_log=False, canvas=WIDE, below=No
 
 
 def span(low, high, pay, player):
-    """The bracket as a bar over payoffs, with a mark at what player one gets where both plans meet."""
-    width, height, floor = NARROW.width, 92, 52
-    room = (high - low) / 6 or abs(low) / 10 or Fraction(1, 2)
-    axis = Axis(round_numbers(low - room, high + room), low - room, high + room, 12, width - 12)
-    left, right, met = (round(axis.place(it), 1) for it in (low, high, pay))
-    middle = 'text-anchor="middle"'
+    """The bracket as a bar over payoffs, as wide as the page, with a mark at what player one gets where both plans
+    meet. All places are parts of the width, so that letters stay as large as they are."""
+    height, floor = 92, 52
+    room = (high - low) / 10 or abs(low) / 10 or Fraction(1, 2)
+    axis = Axis(round_numbers(low - room, high + room), low - room, high + room, 1, 99)
+    left, right, met = (part_of(axis, it) for it in (low, high, pay))
     parts = [
-        f'<svg xmlns="http://www.w3.org/2000/svg" width="{width}" height="{height}" viewBox="0 0 {width} {height}"',
-        ' font-family="sans-serif" font-size="14">',
-        f'<rect width="{width}" height="{height}" fill="white"/>',
-        line(12, floor, width - 12, floor, 'stroke="#333333"'),
+        f'<svg xmlns="http://www.w3.org/2000/svg" width="100%" height="{height}"',
+        ' font-family="sans-serif" font-size="12">',
+        f'<rect width="100%" height="{height}" fill="white"/>',
+        wide_line("1%", floor, "99%", floor),
     ]
     for mark in axis.marks:
-        x = round(axis.place(mark), 1)
-        parts.append(line(x, floor, x, floor + 5, 'stroke="#333333"'))
-        if 24 <= x <= width - 24:
-            parts.append(label(x, floor + 19, number(mark), middle))
-    ends = [(f"LOW {bound('LOW', low)}", left), (f"HIGH {bound('HIGH', high)}", right)]
+        x = part_of(axis, mark)
+        parts += [wide_line(x, floor, x, floor + 5), wide_label(x, floor + 19, number(mark))]
     if low == high:
         is_exact = bound("LOW", low) == bound("HIGH", high)
-        ends = [(f"LOW and HIGH {'' if is_exact else 'about '}{float(low):.4g}", left)]
-    parts += [label(x, 18, told, middle) for told, x in ends]
-    parts.append(line(left, 32, right, 32, 'stroke="#333333" stroke-width="3"'))
-    parts += [line(x, 25, x, floor, 'stroke="#333333" stroke-width="3"') for x in (left, right)]
-    parts.append(f'<circle cx="{met:g}" cy="32" r="5" fill="white" stroke="#333333" stroke-width="2"/>')
-    parts.append(label(width / 2, height - 4, f"{player}'s payoff", middle))
+        parts.append(wide_label(left, 18, f"LOW and HIGH {'' if is_exact else 'about '}{float(low):.4g}"))
+    else:
+        parts.append(wide_label(left, 18, f"LOW {bound('LOW', low)}", "start"))
+        parts.append(wide_label(right, 18, f"HIGH {bound('HIGH', high)}", "end"))
+    parts.append(wide_line(left, 32, right, 32, 3))
+    parts += [wide_line(x, 25, x, floor, 3) for x in (left, right)]
+    parts.append(f'<circle cx="{met}" cy="32" r="5" fill="white" stroke="#333333" stroke-width="2"/>')
+    parts.append(wide_label("50%", height - 4, f"{player}'s payoff"))
     return "\n".join(parts + ["</svg>", ""])
+
+
+def part_of(axis, value):
+    return f"{axis.place(value):.2f}%"
+
+
+def wide_line(x1, y1, x2, y2, width=1):
+    return f'<line x1="{x1}" y1="{y1}" x2="{x2}" y2="{y2}" stroke="#333333" stroke-width="{width}"/>'
+
+
+def wide_label(x, y, text, anchor=None):
+    """A label at a part of the width; near an end of the picture it begins or ends there."""
+    part = float(x[:-1])
+    anchor = anchor or ("start" if part < 6 else "end" if part > 94 else "middle")
+    return f'<text x="{x}" y="{y}" text-anchor="{anchor}">{escape(text)}</text>'

@@ -27,10 +27,22 @@ SHORT_ENTRY = re.compile(
     rb'[\x09-\x0d ]*([cpt])[\x09-\x0d ]*"([^"\\]*)"[\x09-\x0d ]*((?:[0-9]{1,18}[\x09-\x0d ]+)+)(?=[cpt])'
 )
 NUMBERS_OF_ENTRY = {b"c": 2, b"p": 3, b"t": 1}
+# What tokens are, where one can't be taken.
+VERSION, ENTRY, SET_NUMBER = "the version 2", "the next node, which begins with c, p or t", "the set's number"
+ACTIONS, ACTION, PROBABILITY = "the set's actions", "an action's name", "the action's probability"
+PAYOFFS, PAYOFF = "the outcome's payoffs", "a payoff"
 
 
 class Fault(files.Fault):
-    """The file's first fault; its text is the line of docs/game_file.md."""
+    """The file's first fault; its text is the line of docs/game_file.md. Where a token can't be taken, `at` is its
+    place and `wanted` says what may stand there. Of a fault that more than one thing can have, `why` says which it
+    is."""
+
+    def __init__(self, line, at=None, wanted=(), why=""):
+        super().__init__(line)
+        self.at, self.wanted, self.why = at, list(wanted), why
+        # The game as far as it was read, and how many nodes are still to come.
+        self.game, self.missing = None, 0
 
 
 def count_of(digits):
@@ -123,25 +135,25 @@ class Game:
 
 
 class Reader:
-    """Takes one token after the other."""
+    """Takes one token after the other. `others` says what else may stand at the next one's place."""
 
     def __init__(self, data):
-        self.data, self.at = data, 0
+        self.data, self.at, self.others = data, 0, ()
 
     def next_byte(self):
         self.at = WHITE.match(self.data, self.at).end()
         return self.data[self.at : self.at + 1]
 
-    def take(self, kind):
-        """The start and the end of the next token, which must be of this kind."""
+    def take(self, kind, what):
+        """The start and the end of the next token, which must be of this kind; `what` says what it is."""
         first = self.next_byte()
         start = self.at
         if not first:
-            raise Fault("refused 3 UnexpectedEnd")
+            raise Fault("refused 3 UnexpectedEnd", start, self.wanted(what))
         if first == b'"':
             mark = MARK.search(self.data, start + 1)
             if not mark:
-                raise Fault("refused 3 UnexpectedEnd")
+                raise Fault("refused 3 UnexpectedEnd", start, ['the quotation mark that ends this text'])
             found, end = "text", mark.end()
         elif first in b"{},":
             found, end = first.decode(), start + 1
@@ -149,73 +161,85 @@ class Reader:
             end = RUN.match(self.data, start).end()
             found = "word" if first.isalpha() else "number" if first in b"0123456789+-." else None
         if found != kind:
-            raise Fault(f"refused 2 Syntax at {start}")
-        self.at = end
+            raise Fault(f"refused 2 Syntax at {start}", start, self.wanted(what))
+        self.at, self.others = end, ()
         return start, end
 
-    def bytes_of(self, kind):
-        start, end = self.take(kind)
-        return self.data[start:end]
+    def wanted(self, what):
+        return [*self.others, what]
 
-    def word(self, *wanted):
-        start, end = self.take("word")
+    def word(self, what, *wanted):
+        others = self.wanted(what)
+        start, end = self.take("word", what)
         if self.data[start:end] not in wanted:
-            raise Fault(f"refused 2 Syntax at {start}")
+            raise Fault(f"refused 2 Syntax at {start}", start, others)
         return self.data[start:end]
 
-    def text(self):
-        return self.bytes_of("text")[1:-1].replace(b'\\"', b'"')
+    def text(self, what):
+        start, end = self.take("text", what)
+        return self.data[start + 1 : end - 1].replace(b'\\"', b'"')
 
-    def whole(self, least=0):
-        start, end = self.take("number")
+    def whole(self, what, least=0):
+        start, end = self.take("number", what)
         if not DIGITS.fullmatch(self.data, start, end):
-            raise Fault(f"refused 5 Number at {start} Form")
+            raise Fault(f"refused 5 Number at {start} Form", start, [what])
         number = count_of(self.data[start:end])
         if not least <= number <= LIMIT:
-            raise Fault(f"refused 5 Number at {start} Range")
+            raise Fault(f"refused 5 Number at {start} Range", start, [what])
         return number
 
-    def literal(self):
+    def literal(self, what):
         """The value of a literal, and its span."""
-        start, end = self.take("number")
+        start, end = self.take("number", what)
         value = literal_value(self.data[start:end])
         if isinstance(value, str):
-            raise Fault(f"refused 5 Number at {start} {value}")
+            raise Fault(f"refused 5 Number at {start} {value}", start, [what])
         return value, (start, end)
 
-    def optional(self, mark, read):
-        return read() if self.next_byte() == mark else None
+    def optional(self, mark, read, what):
+        if self.next_byte() == mark:
+            return read()
+        self.others = (*self.others, what)
+        return None
 
-    def list_of(self, read_item):
-        self.take("{")
-        items = []
+    def optional_text(self, what):
+        return self.optional(b'"', lambda: self.text(what), what)
+
+    def list_of(self, read_item, what):
+        self.take("{", f'the "{{" before {what}')
+        items, end = [], f'the "}}" behind {what}'
         while self.next_byte() != b"}":
+            self.others = (end,)
             items.append(read_item(len(items)))
-        self.take("}")
+        self.take("}", end)
         return items
 
     def actions(self, of_chance):
-        return self.list_of(lambda _: (self.text(), *(self.literal() if of_chance else (None, None))))
+        def action(_):
+            return self.text(ACTION), *(self.literal(PROBABILITY) if of_chance else (None, None))
+
+        return self.list_of(action, ACTIONS)
 
     def payoffs(self):
         def payoff(place):
             if place and self.next_byte() == b",":
-                self.take(",")
-            return self.literal()[0]
+                self.take(",", "a comma")
+            return self.literal(PAYOFF)[0]
 
-        return self.list_of(payoff)
+        return self.list_of(payoff, PAYOFFS)
 
 
 def read_prologue(reader):
-    reader.word(b"EFG")
-    start, end = reader.take("number")
+    reader.word("the first word EFG", b"EFG")
+    start, end = reader.take("number", VERSION)
     if reader.data[start:end] != b"2":
-        raise Fault(f"refused 2 Syntax at {start}")
-    reader.word(b"R", b"D")
-    title, players = reader.text(), reader.list_of(lambda _: reader.text())
+        raise Fault(f"refused 2 Syntax at {start}", start, [VERSION])
+    reader.word("the word R or D", b"R", b"D")
+    title = reader.text("the title")
+    players = reader.list_of(lambda _: reader.text("a player's name"), "the players' names")
     if len(players) != 2:
-        raise Fault(f"refused 6 Players count {len(players)}")
-    return Game(title, players, reader.optional(b'"', reader.text) or b"")
+        raise Fault(f"refused 6 Players count {len(players)}", reader.at - 1)
+    return Game(title, players, reader.optional_text("a comment") or b"")
 
 
 def read_short_entry(reader):
@@ -226,7 +250,7 @@ def read_short_entry(reader):
     kind, numbers = found[1], [int(it) for it in found[3].split()]
     if len(numbers) != NUMBERS_OF_ENTRY[kind] or kind != b"t" and numbers[-2] == 0:
         return None
-    reader.at = found.end()
+    reader.at, reader.others = found.end(), ()
     told_set = None if kind == b"t" else (numbers[-2], None, None)
     return found[2], numbers[0] if kind == b"p" else 0, told_set, (numbers[-1], None, None)
 
@@ -234,19 +258,19 @@ def read_short_entry(reader):
 def read_told(reader):
     """The next entry: its name, its player, 0 for none, and what it tells of its set, None at a leaf, and of its
     outcome."""
-    kind = reader.word(b"c", b"p", b"t")
-    node_name = reader.text()
-    player = reader.whole() if kind == b"p" else 0
+    kind = reader.word(ENTRY, b"c", b"p", b"t")
+    node_name = reader.text("the node's name")
+    player = reader.whole("the player's number") if kind == b"p" else 0
     told_set = None
     if kind != b"t":
-        number = reader.whole(least=1)
-        name = reader.optional(b'"', reader.text)
-        told_set = (number, name, reader.optional(b"{", lambda: reader.actions(kind == b"c")))
+        number = reader.whole(SET_NUMBER, least=1)
+        name = reader.optional_text("the set's name")
+        told_set = (number, name, reader.optional(b"{", lambda: reader.actions(kind == b"c"), ACTIONS))
         if kind == b"p" and player not in (1, 2):
             player = None
-    number = reader.whole()
-    name = reader.optional(b'"', reader.text)
-    return node_name, player, told_set, (number, name, reader.optional(b"{", reader.payoffs))
+    number = reader.whole("the outcome's number")
+    name = reader.optional_text("the outcome's name")
+    return node_name, player, told_set, (number, name, reader.optional(b"{", reader.payoffs, PAYOFFS))
 
 
 def read_entry(reader, game):
@@ -321,7 +345,11 @@ def read_game(data):
     wanted = [(None, (None, None, None))]
     while wanted:
         parent, own = wanted.pop()
-        node = read_entry(reader, game)
+        try:
+            node = read_entry(reader, game)
+        except Fault as fault:
+            fault.game, fault.missing = game, len(wanted) + 1
+            raise
         game.nodes.append(node)
         if parent is not None:
             parent.children.append(len(game.nodes) - 1)
@@ -335,5 +363,5 @@ def read_game(data):
             below = (own, (None, choice, own[2]), (None, own[1], choice))[player]
             wanted.append((node, below))
     if reader.next_byte():
-        raise Fault(f"refused 4 TrailingText at {reader.at}")
+        raise Fault(f"refused 4 TrailingText at {reader.at}", reader.at, ["the end of the file"])
     return game

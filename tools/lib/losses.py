@@ -1,4 +1,5 @@
-"""What both plans of a text do at each set, what a best response does there, and what the plan loses to it.
+"""What both plans of a text do at each set, what a best response does there, and what is given away there: `lost` is
+what the set's own plan misses against the other one, for which the other player's plan can be exploited.
 
 All numbers are exact and in the file's units of payoff to player one. The text is tested against the game first: its
 head, its plans, the values and choices of both replies, the totals and the bracket, in both players' payoffs.

@@ -7,7 +7,7 @@ import files
 import sequence_form
 
 # The finest root that a text may have: so many rounds of so fine a scale.
-MOST_ROUNDS, SCALE = 65_536, 1_048_576
+MOST_ROUNDS, MOST_SCALE = 65_536, 1_048_576
 # What is not rounded is kept in so many parts of a unit, cut off.
 FINE = 2**64
 
@@ -69,18 +69,59 @@ class Plan:
         return any(number * FINE != exact for number, exact in zip(self.numbers, self.exact))
 
 
-def rounds_for(form, player, chances):
-    """The most rounds, of at most MOST_ROUNDS, whose plan has every number of these probabilities without rounding;
-    MOST_ROUNDS where there are none. Each set's probabilities are whole numbers, in proportion."""
+def least_root(form, player, chances):
+    """The least root whose plan has every number of these probabilities without rounding; None where it is more than a
+    text may have. Each set's probabilities are whole numbers, in proportion."""
     common, reached = 1, [(1, 1)]
     for k, weights in enumerate(chances):
         before, whole = reached[form.before[player][k]], sum(weights)
         reached += [sequence_form.product(before, (weight, whole)) for weight in weights]
         common = lcm(common, *(it[1] for it in reached[-len(weights) :]))
-        if common > MOST_ROUNDS * SCALE:
-            return MOST_ROUNDS
-    step = common // gcd(common, SCALE)
+        if common > MOST_ROUNDS * MOST_SCALE:
+            return None
+    return common
+
+
+def step_of(root, scale):
+    """The least number of rounds that, times the scale, comes to a multiple of the root."""
+    return root // gcd(root, scale)
+
+
+def rounds_for(root, scale):
+    """The most rounds whose plans of this scale have a multiple of this least root, or simply the most where there are
+    none."""
+    step = MOST_ROUNDS + 1 if root is None else step_of(root, scale)
     return MOST_ROUNDS // step * step or MOST_ROUNDS
+
+
+def serving_scale(roots):
+    """The greatest scale with which each of these least roots has rounds, None where there is none. What a scale has in
+    common with the roots decides, so the divisors of them are all that there is to look at."""
+    found = [it for it in divisors(lcm(*roots), MOST_SCALE) if all(step_of(root, it) <= MOST_ROUNDS for root in roots)]
+    return max((MOST_SCALE // it * it for it in found), default=None)
+
+
+def divisors(number, most):
+    """The divisors of a number that are at most so much."""
+    found = [1]
+    for prime, power in factors(number, most):
+        powers = [prime**k for k in range(1, power + 1)]
+        found += [one * two for one in found for two in powers if one * two <= most]
+    return found
+
+
+def factors(number, most):
+    """The primes of a number that are at most so much, each with its power."""
+    prime = 2
+    while prime <= most and number > 1:
+        if prime * prime > number:
+            prime = number
+        power = 0
+        while number % prime == 0:
+            number, power = number // prime, power + 1
+        if power and prime <= most:
+            yield prime, power
+        prime += 1 + prime % 2
 
 
 def shares(units, weights):
@@ -92,9 +133,9 @@ def shares(units, weights):
     return [end - start for start, end in zip(ends, ends[1:])]
 
 
-def deal(form, player, rounds, chances):
+def deal(form, player, root, chances):
     """The plan of these probabilities: each set's units are dealt from those of the sequence before it."""
-    numbers, exact, steps = [rounds * SCALE], [rounds * SCALE * FINE], [0]
+    numbers, exact, steps = [root], [root * FINE], [0]
     for k, weights in enumerate(chances):
         before, whole = form.before[player][k], sum(weights)
         numbers += shares(numbers[before], weights)

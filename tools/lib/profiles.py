@@ -9,6 +9,8 @@ import efg
 import files
 
 COLUMNS = ["player", "set", "action", "probability"]
+# With these begins the text that `solve` or `plus` prints.
+TEXTS = ("XGCERT ", "XGPLUS ")
 PROBABILITY = re.compile(
     r"[+-]?(?:[0-9]{1,1000}/[0-9]{1,1000}|(?=\.?[0-9])[0-9]{0,1000}\.?[0-9]{0,1000}(?:[eE][+-]?[0-9]{1,3})?)"
 )
@@ -63,6 +65,8 @@ def read_profile(data, game, players):
     text = data.decode("utf-8-sig", "surrogateescape")
     if not text.strip():
         raise Fault("the profile is empty")
+    if text.startswith(TEXTS):
+        raise Fault("this is a text of solve or plus, and no profile; --text takes it")
     if text.split(",")[0].strip() == "NE":
         return read_line(text, game, players)
     return read_table(text, game, players)
@@ -105,8 +109,8 @@ def rows_of(text, game):
         for fields in reader:
             line, start = start, reader.line_num + 1
             heads = [it.strip().casefold() for it in fields]
-            if not rows and order is COLUMNS and sorted(heads) == sorted(COLUMNS):
-                order = heads
+            if not rows and order is COLUMNS and is_header(fields):
+                order = whole_header(line, fields)
             elif any(heads):
                 rows.append(row_of(line, fields, order, game))
     except csv.Error as fault:
@@ -114,6 +118,26 @@ def rows_of(text, game):
     if not rows:
         raise Fault("the profile has a header, and no line behind it")
     return rows
+
+
+def is_header(fields):
+    """Whether a first row is meant as a header: a column's word stands there, and nothing that is a probability."""
+    words = re.findall(r"\w+", " ".join(fields).casefold())
+    return not set(words).isdisjoint(COLUMNS) and not any(PROBABILITY.fullmatch(it.strip()) for it in fields)
+
+
+def whole_header(line, fields):
+    """The order of the columns that a header names."""
+    heads = [it.strip().casefold() for it in fields]
+    if sorted(heads) == sorted(COLUMNS):
+        return heads
+    missing = [it for it in COLUMNS if it not in heads]
+    others = [quoted(it.strip()) for it, head in zip(fields, heads) if head not in COLUMNS]
+    told = [f"lacks {' and '.join(missing)}"] * bool(missing) + [f"has {' and '.join(others)}"] * bool(others)
+    raise Fault(
+        f"line {line}: a header has the columns player, set, action and probability, in any order; this one"
+        f" {' and '.join(told) or 'has one of them twice'}"
+    )
 
 
 def row_of(line, fields, order, game):

@@ -4,7 +4,12 @@ from html import escape
 import report_tree
 from bracket_picture import NARROW, picture, span
 from losses import BEST
-from report_words import action_name, best_of, losing, notes, number, percent, player_name, set_name, summary, title
+from report_words import action_name, best_of, exploited_at, given_away, losing, notes, number, percent, player_name
+from report_words import set_name, split, summary, title, verdict
+
+# A page of more sets begins with a list of contents.
+MOST_WITHOUT_CONTENTS = 50
+LONGEST_KEPT = 10
 
 STYLE = """
 body { font: 1rem/1.45 system-ui, sans-serif; color: #111; background: #fff; margin: 0 auto; padding: 0.8rem;
@@ -24,7 +29,12 @@ th.set, tr.best th, tr.best td { font-weight: bold; }
 .room { display: block; border: 1px solid #777; border-width: 0 1px; }
 code { font-family: ui-monospace, monospace; font-size: 0.9em; }
 figure { margin: 1rem 0; }
-figure svg { max-width: 100%; height: auto; }
+figure svg { max-width: 100%; }
+#trace svg { height: auto; }
+p.verdict { font-weight: bold; }
+#bracket code { white-space: nowrap; }
+.kept { white-space: nowrap; }
+.scroll { display: block; overflow-x: auto; }
 ul { list-style: none; margin: 0; padding-left: 0.8rem; border-left: 1px solid #bbb; }
 ul ul ul ul ul ul ul ul ul ul { padding-left: 0; border-left: 0; }
 li { margin: 0.15rem 0; }
@@ -32,7 +42,10 @@ li.leaf { padding-left: 1.1rem; }
 summary { cursor: pointer; }
 summary span, li.leaf span { display: inline-block; margin-right: 0.6rem; }
 a { color: inherit; }
-@media (max-width: 30rem) { body { padding: 0.5rem; font-size: 0.9rem; } th, td { padding-right: 0.4rem; } }
+@media (max-width: 40rem) { body { padding: 0.5rem; font-size: 0.9rem; } th, td { padding-right: 0.4rem; }
+  #bracket, #bracket thead, #bracket tbody { display: block; }
+  #bracket tr { display: grid; grid-template-columns: 1fr auto; border-bottom: 1px solid #bbb; }
+  #bracket th, #bracket td { border: 0; width: auto !important; } #bracket tr > :last-child { grid-column: 1 / 3; } }
 @media print { a { text-decoration: none; } tr, figure { break-inside: avoid; } }
 """
 
@@ -60,19 +73,20 @@ def place_of(set_):
 def page_of(audit, files):
     game = audit.game
     name = escape(title(game))
-    payoffs, gains, columns = (tag("p", escape(it)) for it in notes(audit))
+    payoffs, *reading = (tag("p", escape(it)) for it in notes(audit))
     parts = [
         tag("h1", name),
         tag("p", escape(f"{player_name(game, 1)} against {player_name(game, 2)}")),
+        *(tag("p", escape(it), class_="verdict") for it in verdict(audit)),
+        *contents(audit),
         tag("h2", "The bracket"),
         span_figure(audit),
         summary_table(audit),
         payoffs,
         *trace_figure(audit),
-        tag("h2", "Where the plans lose most"),
+        tag("h2", "Where the plans give away most"),
         losing_table(audit),
-        gains,
-        columns,
+        *reading,
         *(part for player in (1, 2) for part in player_section(audit, player)),
         *tree_section(audit),
         tag("h2", "What this page was made of"),
@@ -90,12 +104,33 @@ def summary_table(audit):
     for said, value, rounding in summary(audit):
         shown = tag("td", number(value, rounding=rounding), class_="n")
         rows.append(tag("tr", tag("th", escape(said), scope="row") + shown + exact(value)))
-    head = head_row(("what", 48), ("payoff", 23, "n"), ("exactly", 29))
+    head = head_row(("what", 42), ("payoff", 16, "n"), ("exactly", 42))
     return tag("table", head + tag("tbody", "\n".join(rows)), id="bracket")
 
 
 def exact(value):
-    return tag("td", tag("code", str(value)))
+    return tag("td", tag("span", tag("code", str(value)), class_="scroll"))
+
+
+def contents(audit):
+    """Where a page of many sets has what: its parts, and folded each player's sets."""
+    if sum(len(audit.lines[player]) for player in (1, 2)) <= MOST_WITHOUT_CONTENTS:
+        return []
+    items = [tag("li", tag("a", "The bracket", href="#bracket"))]
+    if losing(audit):
+        items.append(tag("li", tag("a", "Where the plans give away most", href="#losing")))
+    for player in (1, 2):
+        name, lines = escape(player_name(audit.game, player)), audit.lines[player]
+        items.append(tag("li", tag("a", f"{name}'s plan", href=f"#plan{player}")))
+        if lines:
+            links = "\n".join(tag("li", set_link(line.set)) for line in lines)
+            folded = tag("summary", f"{name}'s {len(lines):,} sets") + tag("ul", links)
+            items.append(tag("li", tag("details", folded)))
+    return [tag("h2", "Contents"), tag("ul", "\n".join(items), id="contents")]
+
+
+def set_link(set_):
+    return tag("a", escape(set_name(set_)), href=f"#{place_of(set_)}")
 
 
 def span_figure(audit):
@@ -119,38 +154,56 @@ def figure(drawn, said, name):
 def losing_table(audit):
     found = losing(audit)
     if not found:
-        return tag("p", "No set loses anything: each plan is a best response to the other.")
+        return tag("p", "Nothing is given away at any set.")
     rows = []
     for line in found:
-        link = tag("a", escape(set_name(line.set)), href=f"#{place_of(line.set)}")
         name = escape(player_name(audit.game, line.set.player))
-        cells = tag("th", f"{name}: {link}", scope="row") + tag("td", escape(best_of(line)))
-        rows.append(tag("tr", cells + right(percent(line.reached)) + right(number(line.lost))))
-    head = head_row(("set", 38), ("best response", 22), ("reached", 20, "n"), ("lost", 20, "n"))
+        where = escape(f"{exploited_at(audit.game, line.set)}'s plan at ") + f"{name}'s {set_link(line.set)}"
+        cells = tag("th", where, scope="row") + tag("td", escape(best_of(line)))
+        rows.append(tag("tr", cells + right(percent(line.reached)) + right(given_away(line.lost))))
+    head = head_row(("whose plan at which set", 38), ("best", 18), ("reached", 21, "n"), ("gives away", 23, "n"))
     return tag("table", head + tag("tbody", "\n".join(rows)), id="losing")
 
 
 def right(content):
-    return tag("td", content.replace(" ", "&#160;"), class_="n")
+    """A number at the right; it is kept on one line unless it is a long one."""
+    told = content.replace(" ", "&#160;")
+    return tag("td", tag("span", told, class_="kept") if len(content) <= LONGEST_KEPT else told, class_="n")
 
 
 def player_section(audit, player):
-    name = escape(player_name(audit.game, player))
+    """A player's sets: those at which the other one's plan gives something away, and then the others, folded."""
+    name, other = (escape(player_name(audit.game, it)) for it in (player, 3 - player))
     lines = audit.lines[player]
+    heading = tag("h2", f"{name}'s plan", id=f"plan{player}")
     if not lines:
-        return [tag("h2", f"{name}'s plan"), tag("p", f"{name} has no choice in this game.")]
+        return [heading, tag("p", f"{name} has no choice in this game.")]
+    where, nowhere = split(lines)
+    parts = [heading]
+    if where:
+        told = f"{other}'s plan gives away {given_away(audit.gains[player])} at these sets together."
+        parts.append(sets_table(audit, where, told))
+    if nowhere:
+        folded = sets_table(audit, nowhere, f"{other}'s plan gives nothing away here.")
+        count = f"{len(nowhere):,} {'more ' if where else ''}set{'' if len(nowhere) == 1 else 's'}"
+        summary_line = tag("summary", f"{count} at which {other}'s plan gives nothing away")
+        parts.append(tag("details", summary_line + folded, **({} if where else {"open": "open"})))
+    return parts
+
+
+def sets_table(audit, lines, told):
     head = head_row(("action", 30), ("plan", 30), ("worth", 24, "n"), ("best", 16))
-    bodies = "\n".join(set_body(line) for line in lines)
-    caption = tag("caption", f"Its sets lose {number(audit.gains[player])} together.")
-    return [tag("h2", f"{name}'s plan"), tag("table", caption + head + bodies)]
+    bodies = "\n".join(set_body(audit, line) for line in lines)
+    return tag("table", tag("caption", told) + head + bodies)
 
 
-def set_body(line):
-    """The rows of a set: its name with how often it is reached and what is lost there, and then its actions."""
-    said = f"reached {percent(line.reached)}, loses {number(line.lost)}"
+def set_body(audit, line):
+    """The rows of a set: its name with how often it is reached and what is given away there, and then its actions."""
+    other = exploited_at(audit.game, line.set)
+    said = f"reached {percent(line.reached)}, {other} gives away {given_away(line.lost)}"
     if line.actions[0].probability is None:
         said = "never reached by its own plan"
-    head = tag("th", escape(set_name(line.set)) + tag("span", said), colspan=4, scope="rowgroup", class_="set")
+    head = tag("th", escape(set_name(line.set)) + tag("span", escape(said)), colspan=4, scope="rowgroup", class_="set")
     rows = [tag("tr", head, id=place_of(line.set))]
     rows += [action_row(it, k) for k, it in enumerate(line.actions, 1)]
     return tag("tbody", "\n".join(rows))

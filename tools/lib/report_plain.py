@@ -1,10 +1,11 @@
 """A report as tables of plain text."""
 import textwrap
 
-from report_words import action_name, best_of, losing, notes, number, percent, player_name, set_name, summary, title
+from report_words import action_name, best_of, exploited_at, given_away, losing, notes, number, percent, player_name
+from report_words import set_name, split, summary, title, verdict
 
 COLUMNS = 100
-HEADS = ("set", "action", "plan", "worth", "best", "reached", "lost")
+HEADS = ("set", "action", "plan", "worth", "best", "reached", "gives away")
 
 
 def table(rows, is_right):
@@ -20,6 +21,7 @@ def table(rows, is_right):
 def text_of(audit, files):
     game, lines = audit.game, []
     lines += [title(game), f"{player_name(game, 1)} against {player_name(game, 2)}", ""]
+    lines += [*(line for it in verdict(audit) for line in textwrap.wrap(it, COLUMNS)), ""]
     lines += [f"{what}: {name}, sha256 {sum_}" for what, (name, sum_) in zip(("game", "text"), files)]
     lines += ["", *(line for it in notes(audit) for line in textwrap.wrap(it, COLUMNS)), ""]
     rows = [("payoff", "exactly", "what it is"), *summary_rows(audit)]
@@ -37,20 +39,22 @@ def summary_rows(audit):
 def losing_lines(audit):
     found = losing(audit)
     if not found:
-        return ["No set loses anything: each plan is a best response to the other."]
-    rows = [("player", "set", "best", "reached", "lost")]
+        return ["Nothing is given away at any set."]
+    rows = [("plan of", "at the set of", "set", "best response", "reached", "gives away")]
     for line in found:
-        name = player_name(audit.game, line.set.player)
-        rows.append((name, set_name(line.set), best_of(line), percent(line.reached), number(line.lost)))
-    return ["where the plans lose most", *table(rows, (False, False, False, True, True))]
+        names = exploited_at(audit.game, line.set), player_name(audit.game, line.set.player)
+        rows.append((*names, set_name(line.set), best_of(line), percent(line.reached), given_away(line.lost)))
+    return ["where the plans give away most", *table(rows, (False, False, False, False, True, True))]
 
 
 def player_lines(audit, player):
     rows = [HEADS]
-    for line in audit.lines[player]:
+    lines = audit.lines[player]
+    for line in (it for part in split(lines) for it in part):
         for k, it in enumerate(line.actions, 1):
-            own = (percent(line.reached), number(line.lost)) if k == 1 else ("", "")
+            own = (percent(line.reached), given_away(line.lost)) if k == 1 else ("", "")
             cells = (set_name(line.set), action_name(it.name, k), number(it.probability), number(it.worth), it.mark)
             rows.append((*cells, *own))
-    head = f"{player_name(audit.game, player)}: its sets lose {number(audit.gains[player])} together"
+    names = player_name(audit.game, player), player_name(audit.game, 3 - player)
+    head = f"{names[0]}'s plan; {names[1]}'s plan gives away {given_away(audit.gains[player])} at these sets together"
     return [head, *table(rows, (False, False, True, True, False, True, True))]

@@ -56,9 +56,9 @@ def summary(audit):
         (f"LOW: {one}'s plan gets at least this against every plan of {two}", text.low, DOWN),
         (f"HIGH: {two}'s plan concedes at most this to every plan of {one}", text.high, UP),
         (f"{one} gets this where both plans meet", audit.pay, NEAREST),
-        (f"{one} would gain this by a best response to {two}'s plan", audit.gains[1], UP),
-        (f"{two} would gain this by a best response to {one}'s plan", audit.gains[2], UP),
-        ("HIGH less LOW, the total exploitability: both gains together", text.high - text.low, UP),
+        (f"{two}'s plan can be exploited for this: {one} gains it by a best response", audit.gains[1], UP),
+        (f"{one}'s plan can be exploited for this: {two} gains it by a best response", audit.gains[2], UP),
+        ("HIGH less LOW, the total exploitability of both plans", text.high - text.low, UP),
     ]
     return rows + player_two_rows(audit)
 
@@ -76,9 +76,55 @@ def player_two_rows(audit):
 
 
 def losing(audit):
-    """The sets that lose most, of both players."""
+    """The sets at which most is given away, of both players."""
     lines = [line for player in (1, 2) for line in audit.lines[player] if line.lost]
     return sorted(lines, key=lambda line: -line.lost)[:MOST_LOSING]
+
+
+def given_away(value):
+    """What a plan gives away or can be exploited for, rounded up."""
+    return number(value, rounding=UP)
+
+
+def exploited_at(game, set_):
+    """Whose plan gives something away at a set: that of the player who doesn't move there."""
+    return player_name(game, 3 - set_.player)
+
+
+def verdict(audit):
+    """Who is at fault, a sentence for each plan: for what it can be exploited, and at which of the other's sets."""
+    if not any(audit.gains[1:]):
+        return ["Neither plan can be exploited: each is a best response to the other."]
+    return [verdict_of(audit, player) for player in (1, 2)]
+
+
+def verdict_of(audit, player):
+    name, other = player_name(audit.game, player), 3 - player
+    gain = audit.gains[other]
+    if not gain:
+        return f"{name}'s plan gives nothing away to {player_name(audit.game, other)}'s best response."
+    lines = sorted((it for it in audit.lines[other] if it.lost), key=lambda it: -it.lost)
+    at = " and ".join(quoted_set(it.set) for it in lines[:2])
+    mostly, more = ("mostly ", f", and at {len(lines) - 2:,} more") if len(lines) > 2 else ("", "")
+    sets = f"{player_name(audit.game, other)}'s set{'' if len(lines) == 1 else 's'}"
+    return f"{name}'s plan can be exploited for {in_full(gain)}; it gives that away {mostly}at {sets} {at}{more}."
+
+
+def quoted_set(set_):
+    name = efg.shown(set_.name)
+    return f'{set_.number} "{name}"' if name else str(set_.number)
+
+
+def in_full(value):
+    """What is given away without a power of ten, unless that has too many digits."""
+    if value < Fraction(100, 10**DIGITS) and value > Fraction(1, 10**12):
+        return f"{to_digits(value, 3, UP):f}"
+    return given_away(value)
+
+
+def split(lines):
+    """The sets at which something is given away, and the others."""
+    return [it for it in lines if it.lost], [it for it in lines if not it.lost]
 
 
 def notes(audit):
@@ -89,9 +135,14 @@ def notes(audit):
     return [
         f"Payoffs are {one}'s, in the units of the game file: {one} wants them high, {two} low. The value of the game"
         f" lies between LOW and HIGH.{together}",
-        f"Each player's best response answers the other one's plan. What {one}'s plan loses at {one}'s sets adds up to"
-        f" what {one} would gain by it, and so for {two}. So {two}'s sets show how {one}'s plan is exploited, and"
-        f" {one}'s sets how {two}'s plan is.",
+        f"A plan is exploited for what the other player gains by a best response to it, beside what both plans together"
+        f" come to. It gives that away at the other player's sets: what {one}'s plan gives away at {two}'s sets, where"
+        f" {two} could do better against it, adds up to what it is exploited for, and so for {two}'s plan.",
         "Reached: how often play comes to the set where both plans are played. Worth: what the action pays at each"
-        " visit where its player goes on with best responses.",
+        " visit where its player goes on with best responses. Gives away: how often the set is reached, times what the"
+        " best action is worth more than the player's own mixture.",
+        "Rounding: LOW and other lower ends down; HIGH and other upper ends up, and so what a plan is exploited for and"
+        " what it gives away; all else to the nearest. Six"
+        " digits stand behind the point, or three that count where a number is below 0.0001 in size; pictures have four"
+        " that count of LOW and HIGH.",
     ]

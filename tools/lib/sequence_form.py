@@ -9,6 +9,9 @@ from math import gcd, lcm
 
 import efg
 
+# The amounts of a place, of which none may pass the limit.
+AMOUNTS = ("the reach", "player one's payoff on the path", "player two's payoff on the path")
+
 
 class Form:
     """The sequence form of a game. `weights` has a number for each leaf, and `at[k]` player k's sequence there;
@@ -69,6 +72,10 @@ def total(one, two):
     return top // common, bottom // common
 
 
+def scale_fault(node, what, amount):
+    return efg.Fault(f"refused 19 Scale node {node}", why=f"{what} is {Fraction(*amount)}")
+
+
 def passes_limit(number):
     return abs(number[0]) > efg.LIMIT or number[1] > efg.LIMIT
 
@@ -105,7 +112,7 @@ def test_chances(game):
         for chance in set_.chances:
             running = total(running, pair(chance))
             if passes_limit(running):
-                raise efg.Fault(f"refused 19 Scale node {set_.first}")
+                raise scale_fault(set_.first, "the sum of the set's first probabilities", running)
         if running != (1, 1):
             raise efg.Fault(f"refused 16 ChanceSum node {set_.first}")
 
@@ -114,15 +121,17 @@ def leaf_share(place, number, form):
     """A leaf's reach times payoff, by which the form's unit grows; `number` is that of its node."""
     paid = total(*place.pays)
     if passes_limit(paid):
-        raise efg.Fault(f"refused 19 Scale node {number}")
+        raise scale_fault(number, "the sum of both payoffs", paid)
     if form.total is None:
         form.total, form.unit = paid, paid[1]
     if paid != form.total:
         raise efg.Fault(f"refused 17 NotConstantSum node {number}")
     share = product(place.reach, place.pays[0])
+    if passes_limit(share):
+        raise scale_fault(number, "reach times player one's payoff", share)
     form.unit = lcm(form.unit, share[1])
-    if passes_limit(share) or form.unit > efg.LIMIT:
-        raise efg.Fault(f"refused 19 Scale node {number}")
+    if form.unit > efg.LIMIT:
+        raise scale_fault(number, "the unit of the leaves up to here", (form.unit, 1))
     return share
 
 
@@ -130,8 +139,9 @@ def take_leaves(form):
     """Puts the leaves into the form, and returns the node's number and the reach times payoff of each."""
     numbers, shares, payoffs = [], [], set()
     for number, place in enumerate(places(form), 1):
-        if passes_limit(place.reach) or passes_limit(place.pays[0]) or passes_limit(place.pays[1]):
-            raise efg.Fault(f"refused 19 Scale node {number}")
+        for what, amount in zip(AMOUNTS, (place.reach, *place.pays)):
+            if passes_limit(amount):
+                raise scale_fault(number, what, amount)
         if place.node.set is None:
             shares.append(leaf_share(place, number, form))
             numbers.append(number)
@@ -149,12 +159,12 @@ def weigh(game):
     numbers, shares = take_leaves(form)
     top, bottom = form.total
     if abs(form.unit // bottom * top) > efg.LIMIT:
-        raise efg.Fault(f"refused 19 Scale node {numbers[0]}")
+        raise scale_fault(numbers[0], "the sum of both payoffs in the unit", (form.unit // bottom * top, 1))
     for number, (top, bottom) in zip(numbers, shares):
         form.weights.append(form.unit // bottom * top)
         form.mass += abs(form.weights[-1])
         if form.mass > efg.LIMIT:
-            raise efg.Fault(f"refused 19 Scale node {number}")
+            raise scale_fault(number, "the mass of the leaves up to here", (form.mass, 1))
     if game.break_of_recall:
         raise efg.Fault("refused 18 NotRecall node {} earlier {}".format(*game.break_of_recall))
     return form
