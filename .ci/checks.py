@@ -1,13 +1,19 @@
 """What the checks through the built program share: its calls, the texts it says, and the count of what passed."""
 import pathlib
+import shutil
+import signal
 import subprocess
 import sys
 
 sys.dont_write_bytecode = True
+# A check in the background ignores the keyboard's signal, and so would what it calls.
+signal.signal(signal.SIGINT, signal.default_int_handler)
 
 ROOT = pathlib.Path(__file__).resolve().parent.parent
 LAUNCHER = ROOT / "bin" / "xg_solve"
-PROGRAM = ROOT / "crates" / "xg_solve" / "out" / "xg_solve"
+# The toolchain's gate makes the first, and tools/prove.py both, of which a gate that was cut off leaves the second.
+PLACES = (ROOT / "crates" / "xg_solve" / "out" / "xg_solve", ROOT / "out" / "xg_solve")
+PROGRAM = next((it for it in PLACES if it.exists()), PLACES[0])
 
 USAGE = (
     b"usage: xg_solve solve FILE [--rounds N] [--every N] [--scale N] [--workers N] [--atomic N]"
@@ -58,6 +64,15 @@ def call(words, name="xg_solve", program=PROGRAM, **options):
     options = {"stdout": subprocess.PIPE, "stderr": subprocess.PIPE, "stdin": subprocess.DEVNULL, **options}
     ended = subprocess.run([name, *words], executable=program, timeout=120, **options)
     return ended.returncode, ended.stdout, ended.stderr
+
+
+def built(name, folder):
+    """A library for LD_PRELOAD, of a source of this folder."""
+    library = folder / f"{name}.so"
+    compiler = shutil.which("cc") or shutil.which("clang") or "cc"
+    source = ROOT / ".ci" / f"{name}.c"
+    subprocess.run([compiler, "-O2", "-shared", "-fPIC", "-o", library, source, "-ldl"], check=True)
+    return library
 
 
 def solve(file):

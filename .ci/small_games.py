@@ -63,11 +63,11 @@ class SmallGame:
     def data(self):
         return ("\n".join(self.lines) + "\n").encode()
 
-    def strategy(self, player):
-        """Random probabilities for each set of a player; some are 0."""
+    def strategy(self, player, sizes=(0, 1, 1, 2, 7, 30, 997)):
+        """Random probabilities for each set of a player, in proportion to these sizes; some are 0."""
         found = {}
         for number, count in self.sets[player].items():
-            parts = [self.random.choice((0, 1, 1, 2, 7, 30, 997)) for _ in range(count)]
+            parts = [self.random.choice(sizes) for _ in range(count)]
             parts[self.random.randrange(count)] += 1
             found[number] = [Fraction(it, sum(parts)) for it in parts]
         return found

@@ -1,18 +1,15 @@
-"""A stand-in for OpenSpiel with the calls that the script of docs/audit.md makes: Kuhn poker, and equal chances."""
+"""A stand-in for OpenSpiel with the calls that `from_openspiel` makes: Kuhn poker, and policies for it."""
 import contextlib
 import os
-import re
 import sys
 import types
-
-from checks import ROOT
 
 
 class State:
     """Kuhn poker as OpenSpiel plays it: two cards of three, then passes (0) and bets (1)."""
 
-    def __init__(self, cards=(), moves=()):
-        self.cards, self.moves = cards, moves
+    def __init__(self, cards=(), moves=(), digits=None):
+        self.cards, self.moves, self.digits = cards, moves, digits
 
     def is_chance_node(self):
         return len(self.cards) < 2
@@ -28,7 +25,8 @@ class State:
 
     def chance_outcomes(self):
         actions = self.legal_actions()
-        return [(it, 1 / len(actions)) for it in actions]
+        chance = 1 / len(actions)
+        return [(it, chance if self.digits is None else round(chance, self.digits)) for it in actions]
 
     def action_to_string(self, action):
         return f"Deal:{action}" if self.is_chance_node() else ("Pass", "Bet")[action]
@@ -38,8 +36,8 @@ class State:
 
     def child(self, action):
         if self.is_chance_node():
-            return State((*self.cards, action), ())
-        return State(self.cards, (*self.moves, action))
+            return State((*self.cards, action), (), self.digits)
+        return State(self.cards, (*self.moves, action), self.digits)
 
     def returns(self):
         if self.moves in ((0, 1, 0), (1, 0)):
@@ -49,40 +47,70 @@ class State:
         return [float(won), float(-won)] if winner == 0 else [float(-won), float(won)]
 
 
+class Kind:
+    """What OpenSpiel tells of a game's moves."""
+
+    def __init__(self, dynamics):
+        self.dynamics = dynamics
+
+
 class Game:
+    """The game by its name, whose chances have so many digits, for so many players, whose moves are of this kind."""
+
+    def __init__(self, digits=None, players=2, dynamics="sequential"):
+        self.digits, self.players, self.dynamics = digits, players, dynamics
+
     def __str__(self):
         return "kuhn_poker()"
 
+    def get_type(self):
+        return Kind(self.dynamics)
+
+    def num_players(self):
+        return self.players
+
     def new_initial_state(self):
-        return State()
+        if self.dynamics == "simultaneous":
+            raise ValueError("states of simultaneous moves have no current player")
+        return State(digits=self.digits)
 
 
-class UniformRandomPolicy:
+GAMES = {
+    "kuhn_poker": Game(),
+    "kuhn_poker(digits=6)": Game(digits=6),
+    "kuhn_poker(players=3)": Game(players=3),
+    "kuhn_poker_at_once": Game(dynamics="simultaneous"),
+}
+
+
+class BetsWithTheKing:
+    """A policy that bets with the best card alone, and never folds it."""
+
     def __init__(self, game):
         self.game = game
 
     def action_probabilities(self, state):
-        return {it: 1 / len(state.legal_actions()) for it in state.legal_actions()}
+        return {1: 1.0} if state.cards[state.current_player()] == 2 else {0: 0.75, 1: 0.25}
 
 
-def run_script(folder):
-    """Runs the script of docs/audit.md in a folder."""
-    page = (ROOT / "docs" / "audit.md").read_text()
-    script = re.search(r"^    import csv\n(?:(?:    .*)?\n)*", page, re.M)[0].replace("\n    ", "\n").strip()
-    outer, inner = types.ModuleType("pyspiel"), types.ModuleType("open_spiel.python")
-    outer.load_game = {"kuhn_poker": Game()}.__getitem__
-    inner.policy = types.SimpleNamespace(UniformRandomPolicy=UniformRandomPolicy)
-    modules = {"pyspiel": outer, "open_spiel": types.ModuleType("open_spiel"), "open_spiel.python": inner}
-    sys.modules.update(modules)
-    with within(folder):
-        exec(compile(script, "docs/audit.md", "exec"), {"__name__": "script"})
-    for name in modules:
-        del sys.modules[name]
+def load_game(name):
+    if name not in GAMES:
+        raise RuntimeError(f"Unknown game '{name}'")
+    return GAMES[name]
 
 
 @contextlib.contextmanager
-def within(folder):
+def stand_in(folder):
+    """OpenSpiel's module, and one with policies, while the work is done in this folder."""
+    spiel, policies = types.ModuleType("pyspiel"), types.ModuleType("policies")
+    spiel.load_game, spiel.convert_to_turn_based = load_game, lambda game: Game()
+    spiel.GameType = types.SimpleNamespace(Dynamics=types.SimpleNamespace(SIMULTANEOUS="simultaneous"))
+    policies.bets_with_the_king = BetsWithTheKing
     before = os.getcwd()
+    sys.modules.update(pyspiel=spiel, policies=policies)
     os.chdir(folder)
-    yield
-    os.chdir(before)
+    try:
+        yield
+    finally:
+        os.chdir(before)
+        del sys.modules["pyspiel"], sys.modules["policies"]

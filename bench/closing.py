@@ -8,12 +8,16 @@ PROGRAM is the built one where nothing else is given. One-card poker with 3, 8, 
 rounds a row has both ends of the bracket, their distance, and the best of N runs' seconds, with all reading and writing.
 Decimals are rounded outward, so what is printed is a bracket, too.
 
-Two more tables have `plus` beside `solve`, on the games of FOLDER and on the files of `gen` for those cards: how wide both
-brackets are after the same rounds, for each number of them, and after the same time: `plus` with 2,048 rounds, the most
-that it has, and `solve` with as many rounds as take that long. This time is the processor's of the rounds behind the
-first, which tells the same on a busy machine: the best of N runs with one round and with many (8,192 of `solve`). All
-evaluate after every E-th round, the tenth where nothing else is said. With --only some tables alone are printed: poker,
-games or plus.
+Two more tables have `plus` beside `solve`, on the games of FOLDER and on the files of `gen` for those cards: how wide
+both brackets are after the same rounds, for each number of them, there of games of `make_game` too, and after the
+same time: `plus` with 2,048 rounds, the most that it has, and `solve` with as many rounds as take that long. This
+time is the processor's of the rounds behind the first, which tells the same on a busy machine: the best of N runs
+with one round and with many (8,192 of `solve`). All evaluate after every E-th round, the tenth where nothing else is
+said.
+
+A last table has what tools/promise says of the games of FOLDER beside HIGH less LOW as it is printed, and the least
+rounds that promise a hundredth of the range of payoffs. With --only some tables alone are printed: poker, games, plus
+or promises.
 """
 import argparse
 import os
@@ -23,13 +27,21 @@ import sys
 import tempfile
 from fractions import Fraction
 
-from reading import PROGRAM, run
+from reading import PROGRAM, ROOT, run
+
+sys.path.append(str(ROOT / "tools" / "lib"))
+import efg  # noqa: E402
+import promises  # noqa: E402
+import sequence_form  # noqa: E402
 
 CARDS = (3, 8, 16, 32, 64)
 POKER_ROUNDS = (10, 100, 1_000, 10_000)
 GAME_ROUNDS = (100, 10_000)
 SAME_ROUNDS = (10, 100, 1_000)
+PROMISED_ROUNDS = (100, 1_000, 65_536)
 MOST_PLUS_ROUNDS, MOST_ROUNDS, TIMED_ROUNDS = 2_048, 65_536, 8_192
+PAPER_GAMES = (("goofspiel", "4"), ("liars_dice", "3"), ("leduc",))
+MAKE_GAME = pathlib.Path(__file__).resolve().parent.parent / "tools" / "make_game"
 GAMES = pathlib.Path(__file__).resolve().parent.parent / "games"
 
 
@@ -119,6 +131,28 @@ def same_time(program, files, given):
         print(f"| {name} | {' | '.join(cells)} |", flush=True)
 
 
+def promised(program, files, given):
+    """How wide brackets are beside what was promised of them."""
+    heads = [f"{what}, {rounds:,}" for rounds in PROMISED_ROUNDS for what in ("printed", "promised")]
+    print(f"| Game | Range | {' | '.join(heads)} | 0.01 of the range |")
+    print("|---" * (len(heads) + 3) + "|")
+    for name, path in files:
+        form = sequence_form.weigh(efg.read_game(path.read_bytes()))
+        span = payoff_span(form)
+        found = promises.Promise(form, promises.MOST_SCALE[False], False)
+        cells = [str(span)]
+        for rounds in PROMISED_ROUNDS:
+            cells += [width(program, "solve", str(path), rounds, given.every), decimal(found.after(rounds), 6, True)]
+        least = found.rounds_for(span / 100)
+        print(f"| {name} | {' | '.join(cells)} | {'none' if least is None else format(least, ',')} |", flush=True)
+
+
+def payoff_span(form):
+    """The greatest payoff of player one at a leaf less the least."""
+    pays = [Fraction(*place.pays[0]) for place in sequence_form.places(form) if place.node.set is None]
+    return max(pays) - min(pays)
+
+
 def made_files(program, folder):
     """The files of one-card poker."""
     for cards in CARDS:
@@ -127,13 +161,21 @@ def made_files(program, folder):
         yield f"`gen {cards}`", path
 
 
+def paper_files(folder):
+    """The files of games that papers report numbers on."""
+    for words in PAPER_GAMES:
+        path = pathlib.Path(folder) / f"{'_'.join(words)}.efg"
+        path.write_text("\n".join(lines_of([str(MAKE_GAME), *words])) + "\n")
+        yield f"`make_game {' '.join(words)}`", path
+
+
 def main():
     parser = argparse.ArgumentParser(description=__doc__, formatter_class=argparse.RawDescriptionHelpFormatter)
     parser.add_argument("program", metavar="PROGRAM", nargs="?", default=str(PROGRAM))
     parser.add_argument("--every", metavar="E", type=int, default=10)
     parser.add_argument("--runs", metavar="N", type=int, default=5)
     parser.add_argument("--folder", default=str(GAMES))
-    parser.add_argument("--only", choices=("poker", "games", "plus"), help="print these tables alone")
+    parser.add_argument("--only", choices=("poker", "games", "plus", "promises"), help="print these tables alone")
     given = parser.parse_args()
     program = os.path.abspath(given.program)
     files = [(f"`{path.stem}`", path) for path in sorted(pathlib.Path(given.folder).glob("*.efg"))]
@@ -146,9 +188,12 @@ def main():
     if given.only in (None, "plus"):
         with tempfile.TemporaryDirectory() as folder:
             compared = [*made_files(program, folder), *files]
-            same_rounds(program, compared, given)
+            same_rounds(program, [*compared, *paper_files(folder)], given)
             print()
             same_time(program, compared, given)
+            print()
+    if given.only in (None, "promises"):
+        promised(program, files, given)
 
 
 if __name__ == "__main__":

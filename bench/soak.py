@@ -12,8 +12,9 @@ What is tested: the status, standard output and standard error agree with one an
 by tools/certificate.py, comes back byte for byte, and `check` accepts it in both versions with its bracket; a changed text
 is refused, or its bracket meets the bracket of the text that it was made from; `upgrade` is refused as `check` is, or writes
 version 2; `plus` is refused as `solve` is, or its text, which `check` refuses, has a bracket that meets that of `solve`;
-a batch has for each file what `solve` says of it; more workers print the same; `info` prints the numbers of the text; what
-`gen` writes is solved as `drill` does; no call takes more memory or time than its bytes allow.
+no bracket is wider than tools/promise says of its game; a batch has for each file what `solve` says of it; more workers
+print the same; `info` prints the numbers of the text; what `gen` writes is solved as `drill` does; no call takes more
+memory or time than its bytes allow.
 
 A finding is shown with its case, and its files are kept. The last line counts what passed and failed, and the status is 1
 where something failed.
@@ -40,6 +41,8 @@ from checks import NO_MEMORY, READ_FAULT, USAGE, WRITE_FAULT  # noqa: E402
 from small_games import SmallGame  # noqa: E402
 from tool_calls import in_version  # noqa: E402
 import certificate  # noqa: E402
+import efg  # noqa: E402
+from promises import promise  # noqa: E402
 
 REFUSED = re.compile(rb"refused ([1-9]|1[0-9]|2[1-9]|3[0-3]) [A-Z][A-Za-z]+( [a-z0-9A-Z ]+)?\n")
 ACCEPTED = re.compile(rb"accepted (no bounds|-?\d+(?:/\d+)? -?\d+(?:/\d+)?)\n")
@@ -148,6 +151,14 @@ def told_bracket(out):
     return None if said == b"no bounds" else tuple(map(certificate.Fraction, said.decode().split()))
 
 
+def keeps_promise(soak, data, out):
+    """The text's bracket is no wider than what is promised of its game."""
+    text = certificate.read_text(out)
+    if text.rounds:
+        promised = promise(efg.read_game(data), text.scale, text.form == certificate.FORM_OF_PLUS).after(text.rounds)
+        soak.that("the bracket is within its promise", text.high - text.low <= promised, (promised, out))
+
+
 def is_accepted(soak, file, data, text, bracket):
     """`check` accepts the text in both versions with its bracket."""
     for written in (text, in_version(1, text)):
@@ -205,6 +216,7 @@ def solved(soak, chance, file, data):
     if answer.status == 0:
         soak.that("info prints the numbers", told.out.endswith(numbers_of(answer.out)), told.out)
         bracket = bracket_of(soak, answer.out)
+        keeps_promise(soak, data, answer.out)
         is_accepted(soak, file, data, answer.out, bracket)
         changed_texts(soak, chance, file, data, answer.out, bracket)
     by_plus(soak, chance, file, data, answer)
@@ -220,6 +232,7 @@ def by_plus(soak, chance, file, data, solved):
     if answer.status == 0:
         soak.that("the first line of CFR+", answer.out.startswith(b"XGPLUS 1\n"), answer.out)
         refused = soak.call("check", file, soak.file("text", answer.out), read=(data, answer.out))
+        keeps_promise(soak, data, answer.out)
         soak.that("it is no certificate", refused.err == b"refused 22 CertSyntax at 0\n", refused)
         one, two = bracket_of(soak, answer.out), bracket_of(soak, solved.out)
         holds = None in (one, two) or (one[0] <= two[1] and two[0] <= one[1])
@@ -267,6 +280,7 @@ def poker_case(soak, chance):
     again = soak.call("solve", file, *words, read=(written.out,))
     soak.that("gen and drill have a game", written.status == answer.status == 0, (written, answer))
     soak.that("drill is solve of what gen writes", again[:3] == answer[:3], (cards, words))
+    keeps_promise(soak, written.out, answer.out)
     is_accepted(soak, file, written.out, answer.out, bracket_of(soak, answer.out))
 
 

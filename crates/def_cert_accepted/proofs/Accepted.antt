@@ -48,7 +48,8 @@ pub numbers_back : (sets : List InformationSet) (plan : List ℕ) → length pla
 numbers_back sets [] e = absurd (omega arith)
 numbers_back sets (x ∷ xs) e = ap (λ (ys : List ℕ). x ∷ ys) (joined_by_sets sets xs (omega arith))
 
-plan_holds : (sets : List InformationSet) (root : ℕ) (plan : List ℕ) → IsPlan sets root plan
+-- a plan, cut by sets, holds as one of its root
+pub plan_holds : (sets : List InformationSet) (root : ℕ) (plan : List ℕ) → IsPlan sets root plan
     → HoldsAsPlan sets root (printed_plan sets plan)
 plan_holds sets root plan h =
     let back = numbers_back sets plan h.all_sequences in
@@ -59,7 +60,8 @@ plan_holds sets root plan h =
     }
 
 -- ---- replies
-reply_holds : (game : WeighedGame) (player : Player) (plan : List ℕ) (printed : PrintedPlan) (traced : ℤ)
+-- the best reply to a plan that is printed holds, with its total over the unit times the plan's root
+pub reply_holds : (game : WeighedGame) (player : Player) (plan : List ℕ) (printed : PrintedPlan) (traced : ℤ)
     → AreInOrder (player_sets game.form player) → printed_numbers printed ≡ plan
     → printed.root ≡ slice_index plan 0 → total_against game.form player plan ≡ traced
     → HoldsAsReply player (leaf_sum player game.form.leaves (printed_numbers printed)) (player_sets game.form player) (best_reply_to game.form player plan) traced

@@ -80,7 +80,8 @@ sets_fit first (h ∷ hs) xs low order small each =
     (sets_fit (first + h.actions) hs (drop h.actions xs) (omega (arith, length-drop h.actions xs)) (All-tail IsInOrder here rest order)
     (All-tail (λ (g : InformationSet). g.actions ≤ most_actions) h hs small) (All-drop IsWeight h.actions xs each))
 
-plan_fits : (sets : List InformationSet) (root : ℕ) (plan : List ℕ) → AreInOrder sets
+-- a plan of a root within the limit, cut by sets
+pub plan_fits : (sets : List InformationSet) (root : ℕ) (plan : List ℕ) → AreInOrder sets
     → All (λ (h : InformationSet). h.actions ≤ most_actions) sets → IsPlan sets root plan → root ≤ most_root
     → PlanFits (length sets) (printed_plan sets plan)
 plan_fits sets root plan order small is few =
@@ -105,7 +106,7 @@ choices_fit player w first (h ∷ hs) (r ∷ rs) tight small =
     (ap suc rest.0, All-cons (λ (r : SetReply). IsFromTo 1 most_actions r.choice) r rs (tight.0.an_action.0, omega (arith, tight.0.an_action.1, few)) rest.1)
 
 -- the total of a reply to a plan of the other player's sets
-small_total : (form : SequenceForm) (player : Player) (sets : List InformationSet) (root : ℕ) (plan : List ℕ)
+pub small_total : (form : SequenceForm) (player : Player) (sets : List InformationSet) (root : ℕ) (plan : List ℕ)
     → AreInOrder (player_sets form player) → AreInOrder sets → IsPlan sets root plan
     → mass_of form.leaves ≤ most_mass → root ≤ most_root → unsigned_abs (total_against form player plan) ≤ 2 ^ 98
 small_total form player sets root plan order other is light few =
@@ -116,7 +117,8 @@ small_total form player sets root plan order other is light few =
       mul-le (mass_of form.leaves) root (2 ^ 62) (2 ^ 36) light few,
     )
 
-reply_fits : (form : SequenceForm) (player : Player) (sets : List InformationSet) (root : ℕ) (plan : List ℕ)
+-- the best reply to it
+pub reply_fits : (form : SequenceForm) (player : Player) (sets : List InformationSet) (root : ℕ) (plan : List ℕ)
     → AreInOrder (player_sets form player) → AreInOrder sets → IsPlan sets root plan
     → All (λ (h : InformationSet). h.actions ≤ most_actions) (player_sets form player) → mass_of form.leaves ≤ most_mass
     → root ≤ most_root
@@ -138,7 +140,8 @@ reply_fits form player sets root plan order other is small light few =
       choices = chosen.1;
     }
 
-end_fits : (game : WeighedGame) (player : Player) (sets : List InformationSet) (root : ℕ) (plan : List ℕ)
+-- and the total of that in payoff units
+pub end_fits : (game : WeighedGame) (player : Player) (sets : List InformationSet) (root : ℕ) (plan : List ℕ)
     → AreInOrder (player_sets game.form player) → AreInOrder sets → IsPlan sets root plan
     → mass_of game.form.leaves ≤ most_mass → root ≤ most_root → IsFromTo 1 most game.unit
     → BoundFits (fraction_of (total_against game.form player plan) (game.unit * slice_index plan 0))

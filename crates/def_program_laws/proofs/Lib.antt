@@ -1,7 +1,7 @@
-mod Heads
+pub mod Heads
 mod CertificateLineWidths
-mod CertificatesAreShort
-mod Solved
+pub mod CertificatesAreShort
+pub mod Solved
 mod Exploitability
 mod Sharp
 mod ForBoth
