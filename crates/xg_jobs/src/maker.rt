@@ -14,9 +14,11 @@ use std::thread::Threads;
 
 /// Who makes a form's rows.
 pub trait RowMaker {
-    // what the maker itself needs, and whether it makes packets of jobs
+    /// What holds of a maker that can make rows. Most ask for nothing; one that calls a closure asks that the closure
+    /// may be called, and makes them.
     ghost can_make: { Self → Type 0 };
 
+    /// Whether it makes packets of jobs.
     ghost by_packets: { Self → Bool };
 
     /// Whether packets of jobs are made, for which a table has to have the rows of each job.

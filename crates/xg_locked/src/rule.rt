@@ -40,8 +40,10 @@ impl Join<View> for JoinsViews {
 pub trait Cut {
     ghost use Rattle.xg_locked.specs.declared.view.View.{View};
 
+    /// What the seat keeps.
     ghost kept: { View };
 
+    /// What the new seat is given.
     ghost given: { View };
 }
 

@@ -12,16 +12,19 @@ pub trait RowName {
     ghost use Rattle.def_sums.specs.Sum.{nat_sum_over};
     ghost use Rattle.def_history.specs.History.{job_numbers};
 
+    /// How many jobs there are.
     ghost jobs: { ℕ };
 
+    /// How many rows there are.
     ghost rows: { ℕ };
 
-    // by the job's number and the row
+    /// What a job adds to a row, by the job's number and the row.
     ghost amount: { ℕ → ℕ → ℤ };
 
+    /// The table of the workers' rights.
     ghost table: { TableId };
 
-    // at each row the sizes of all jobs' amounts add up to no more
+    /// At each row the sizes of all jobs' amounts add up to at most 2^98.
     ghost small: { (row : ℕ) → row < rows
         → nat_sum_over (λ job. unsigned_abs (amount job row)) (job_numbers jobs) ≤ most_row };
 }

@@ -8,13 +8,16 @@ use def_tree::Node;
 ///
 /// Nodes are numbered from 1 in prefix order.
 pub trait Visitor {
-    // what each call asks of the visitor as it is, and what it can leave
+    /// What entering a node asks of the visitor as it is.
     ghost may_enter: { Self → ℕ → Node → Type 0 };
 
+    /// What entering a node can make of it.
     ghost enters: { Self → ℕ → Node → Self → Type 0 };
 
+    /// What leaving a node asks of the visitor as it is.
     ghost may_leave: { Self → ℕ → Type 0 };
 
+    /// What leaving a node can make of it.
     ghost leaves: { Self → ℕ → Self → Type 0 };
 
     /// Node `k` is entered, before its children.
