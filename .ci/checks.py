@@ -6,6 +6,8 @@ import subprocess
 import sys
 
 sys.dont_write_bytecode = True
+from named_games import game  # noqa: E402
+
 # A check in the background ignores the keyboard's signal, and so would what it calls.
 signal.signal(signal.SIGINT, signal.default_int_handler)
 
@@ -23,7 +25,7 @@ READ_FAULT = b"read fault\n"
 WRITE_FAULT = b"write fault\n"
 NO_MEMORY = b"want of memory\n"
 
-ONE_LEAF = b'EFG 2 R "" { "A" "B" }\nt "" 1 { 0, 0 }\n'
+ONE_LEAF = game("one_leaf")
 
 
 def text(nodes, leaves, sets=(0, 0), sequences=(1, 1), unit=1, mass=0, total=0):

@@ -1,23 +1,13 @@
 """Command lines of a file of rows through the built program.
 
-A case has files, each a text, or a start that is filled up to a size, or so many bytes 0; and calls with their status,
-output and error, where a long output is told by its size and its checksum."""
+A case has files, as named_games.py has them; and calls with their status, output and error, where a long output is told
+by its size and its checksum."""
 import hashlib
 import pathlib
 import tempfile
 
 from checks import USAGE, call
-
-
-def write_file(path, spec):
-    if "text" in spec:
-        path.write_text(spec["text"])
-    elif "sparse" in spec:
-        with open(path, "wb") as file:
-            file.truncate(spec["sparse"])
-    else:
-        start = spec["start"].encode()
-        path.write_bytes(start + spec.get("fill", "\n").encode() * (spec["size"] - len(start)))
+from named_games import file_of
 
 
 def expect_cases(checks, cases):
@@ -25,7 +15,7 @@ def expect_cases(checks, cases):
     for row in cases:
         with tempfile.TemporaryDirectory() as folder:
             for name, spec in row["files"].items():
-                write_file(pathlib.Path(folder) / name, spec)
+                (pathlib.Path(folder) / name).write_bytes(file_of(spec))
             for number, step in enumerate(row["steps"], 1):
                 expect_step(checks, f"{row['what']}, call {number}", step, folder)
 

@@ -5,6 +5,7 @@ The rows of def_closing_games, and of def_closing_program for Kuhn poker, have t
 from fractions import Fraction
 
 from checks import ROOT
+from named_games import game
 from small_games import small_games
 from tool_calls import tool
 
@@ -15,40 +16,7 @@ import sequence_form  # noqa: E402
 KUHN = (ROOT / "games" / "kuhn_poker.efg").read_bytes()
 # Matching pennies for one coin, a choice between two tosses of one coin, and three ways of which player two sees the
 # one that was taken.
-COIN = b"""EFG 2 R "" { "A" "B" }
-p "" 1 1 { "h" "t" } 0
-p "" 2 1 { "h" "t" } 0
-t "" 1 { 1, 0 }
-t "" 2 { 0, 1 }
-p "" 2 1 0
-t "" 2
-t "" 1
-"""
-TOSS = b"""EFG 2 R "" { "A" "B" }
-p "" 1 1 { "a" "b" } 0
-c "" 1 { "h" 1/2 "t" 1/2 } 0
-t "" 1 { 1, -1 }
-t "" 0
-c "" 1 0
-t "" 0
-t "" 2 { -1, 1 }
-"""
-WAYS = b"""EFG 2 R "" { "A" "B" }
-c "" 1 { "a" 3/4 "b" 1/4 } 0
-p "" 1 1 { "go" "stop" } 0
-p "" 1 2 { "u" "v" "w" } 0
-p "" 2 1 { "x" "y" } 0
-t "" 1 { 2/3, 1/3 }
-t "" 2 { 0, 1 }
-p "" 2 2 { "x" "y" } 0
-t "" 1
-t "" 2
-p "" 2 3 { "x" "y" } 0
-t "" 1
-t "" 2
-t "" 2
-t "" 2
-"""
+COIN, TOSS, WAYS = game("coin"), game("toss"), game("ways")
 SPREADS = [
     ("Kuhn poker", KUHN, 24, [(2, it) for it in (6, 2, 6, 3, 6, 6, 3, 3, 2, 6, 4, 2)]),
     ("pennies for a coin", COIN, 1, [(2, 1), (2, 1)]),

@@ -1,4 +1,5 @@
-"""Calls of the tools of tools/, within this process, so that many of them take little time; and of both checkers."""
+"""Calls of the tools of tools/, within this process, so that many of them take little time; of both checkers; and what
+all of them say of a game and a certificate."""
 import importlib.machinery
 import importlib.util
 import io
@@ -61,3 +62,35 @@ def expect_both(checks, what, game, file, answer):
     if answer.startswith("accepted"):
         wanted = (0, in_version(2, pathlib.Path(file).read_bytes()), b"")
     checks.expect(f"{what}, upgraded", call(["upgrade", str(game), str(file)]), *wanted)
+
+
+class Files:
+    """A game and a certificate, and what the program, the other checker and the tools say of them."""
+
+    def __init__(self, checks, folder):
+        self.checks, self.game, self.certificate = checks, folder / "game.efg", folder / "certificate"
+
+    def call(self, command, *words):
+        return call([command, str(self.game), *map(str, words)])
+
+    def check(self, what, answer):
+        """Both checkers have this answer, and `upgrade` is refused alike."""
+        expect_both(self.checks, what, self.game, self.certificate, answer)
+
+    def check_text(self, what, data, answer):
+        """They have this answer to this certificate."""
+        self.certificate.write_bytes(data)
+        self.check(what, answer)
+
+    def comes_back(self, what, data):
+        """What the tools read of a text, which they write again as it is."""
+        read = certificate.read_text(data)
+        self.checks.that(f"{what}, read", certificate.text_of(read) == data, "it comes back otherwise")
+        return read
+
+    def accepted(self, what, data):
+        """A text comes back from the tools, and is accepted with its bracket."""
+        read = self.comes_back(what, data)
+        bracket = "no bounds" if read.low is None else f"{read.low} {read.high}"
+        self.check_text(f"{what}, checked", data, f"accepted {bracket}")
+        return read
