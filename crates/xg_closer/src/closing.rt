@@ -1,6 +1,6 @@
 //! The close of a round: the regrets that it adds.
 ghost use Rattle.std.specs.Prelude.{◌≡◌, ℕ, ◌+◌, ◌*◌, ◌^◌, ◌<◌, ◌≤◌, ℤ, pos, ◌+ℤ◌, ◌-ℤ◌, ◌*ℤ◌, unsigned_abs};
-ghost use Rattle.std.specs.Prelude.{length, map, slice_get, slice_index, FitsSigned, IfSome, Some};
+ghost use Rattle.std.specs.Prelude.{length, map, slice_get, slice_index, FitsSigned, IfSome, IsNone, Some};
 ghost use Rattle.std.specs.Int.{int_wrap};
 ghost use Rattle.def_plan.specs.Form.{player_sets, sequence_count, sequences_of};
 ghost use Rattle.def_round.specs.Play.{GivesAllUnits, regret_of, units};
@@ -147,6 +147,8 @@ fn close_rows<A: Worth>(
     ensures small_count { length small_regrets.new ≡ length small_regrets.old }
     ensures count { length regrets.new ≡ length regrets.old }
     ensures small { AreWithin result small_regrets.new }
+    ensures stay_small { let sizes = nat_sum_over unsigned_abs (map A.amount rows.now) in
+        (before : ℕ) → most ≡ Some before → before + sizes ≤ most_small_rows → result ≡ Some (before + sizes) }
     ensures regrets { kept_regrets result small_regrets.new regrets.new
         ≡ regrets_after (own_amount player (map A.amount rows.now)) play.now (player_sets form.now player)
         (kept_regrets most small_regrets.old regrets.old) }
@@ -176,7 +178,8 @@ fn close_rows<A: Worth>(
 // The greatest size of a small regret after a round whose rows have these sizes together, where both have room in a
 // word and stay so.
 fn most_after(most: Option<u64>, sizes: Option<u64>) -> Option<u64>
-    ensures { IfSome result (IsMostAfter most sizes) }
+    ensures within { IfSome result (IsMostAfter most sizes) }
+    ensures all { (more : ℕ) → IsMostAfter most sizes more → result ≡ Some more }
 {
     let more = most?.checked_add(sizes?)?;
     if more <= MOST_SMALL_ROWS {
@@ -248,6 +251,8 @@ fn take_small_rows<A: Worth>(player: Player, rows: &[A], worths: &mut [i64]) -> 
     requires as_many { length rows.now ≡ length worths.old }
     ensures count { length worths.new ≡ length worths.old }
     ensures taken { IfSome result (AreTaken player (map A.amount rows.now) worths.new) }
+    ensures sizes { let sizes = nat_sum_over unsigned_abs (map A.amount rows.now) in
+        sizes ≤ most_small_rows → result ≡ Some sizes }
 {
     let mut room = MOST_SMALL_ROWS;
     for i in 0..rows.len() {
@@ -262,7 +267,8 @@ fn take_small_rows<A: Worth>(player: Player, rows: &[A], worths: &mut [i64]) -> 
 
 // The row, if its size is no greater than the room.
 fn small_row(row: i128, room: u64) -> Option<i64>
-    ensures { IfSome result (λ small. (small ≡ row) × (unsigned_abs row ≤ room)) }
+    ensures within { IfSome result (λ small. (small ≡ row) × (unsigned_abs row ≤ room)) }
+    ensures none { IsNone result → room ≤ most_small_rows → room < unsigned_abs row }
 {
     let small = i64::try_from(row).ok()?;
     if small.unsigned_abs() <= room {

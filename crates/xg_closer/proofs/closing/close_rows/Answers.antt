@@ -1,6 +1,7 @@
-use Rattle.std.proofs.Common.{◌≡◌, ℕ, ◌^◌, ◌<◌, ◌≤◌, FitsSigned, List, ℤ, ◌+ℤ◌, unsigned_abs, map, arith, sym, subst, ap, ◌∙◌}
+use Rattle.std.proofs.Common.{◌≡◌, ℕ, ◌+◌, ◌^◌, ◌<◌, ◌≤◌, FitsSigned, List, ℤ, ◌+ℤ◌, unsigned_abs, map, arith, sym, subst, ap, refl, ◌∙◌}
 use Rattle.std.proofs.lemmas.List.{length-map}
 use Rattle.std.specs.Int.{w64}
+use Rattle.def_sums.specs.Sum.{nat_sum_over}
 use Rattle.def_plan.specs.Form.{InformationSet, player_sets}
 use Rattle.def_round.specs.Play.{regret_of}
 use Rattle.def_round.specs.Round.{regrets_after}
@@ -20,7 +21,7 @@ close_sets-requires-clause-small g c =
     let wide : List ℤ = c.args.regrets.now in
     let first : List ℤ = c.take_small_rows-sizes.new.worths in
     let more : ℕ = c.in-Some.field-0 in
-    let after : IsMostAfter c.args.most c.take_small_rows-sizes.result more = if_some (IsMostAfter c.args.most c.take_small_rows-sizes.result) c.most_after-more.result more c.in-Some.is c.most_after-more.ensures in
+    let after : IsMostAfter c.args.most c.take_small_rows-sizes.result more = if_some (IsMostAfter c.args.most c.take_small_rows-sizes.result) c.most_after-more.result more c.in-Some.is c.most_after-more.ensures.within in
     let taken : AreTaken c.args.player rows first after.grown = if_some (AreTaken c.args.player rows first) c.take_small_rows-sizes.result after.grown after.grown_is c.take_small_rows-sizes.ensures.taken in
     let within = if_some (λ (most : ℕ). (most ≤ 2 ^ 62) × ((s : ℕ) → unsigned_abs (regret_of small s) ≤ most)) c.args.most after.before after.before_is c.requires.small in
     let kept_is : kept_regrets c.args.most small wide ≡ small = ap (λ most. kept_regrets most small wide) after.before_is in
@@ -34,7 +35,7 @@ close_sets-requires-clause-fits g c =
     let wide : List ℤ = c.args.regrets.now in
     let first : List ℤ = c.take_small_rows-sizes.new.worths in
     let more : ℕ = c.in-Some.field-0 in
-    let after : IsMostAfter c.args.most c.take_small_rows-sizes.result more = if_some (IsMostAfter c.args.most c.take_small_rows-sizes.result) c.most_after-more.result more c.in-Some.is c.most_after-more.ensures in
+    let after : IsMostAfter c.args.most c.take_small_rows-sizes.result more = if_some (IsMostAfter c.args.most c.take_small_rows-sizes.result) c.most_after-more.result more c.in-Some.is c.most_after-more.ensures.within in
     let taken : AreTaken c.args.player rows first after.grown = if_some (AreTaken c.args.player rows first) c.take_small_rows-sizes.result after.grown after.grown_is c.take_small_rows-sizes.ensures.taken in
     let within = if_some (λ (most : ℕ). (most ≤ 2 ^ 62) × ((s : ℕ) → unsigned_abs (regret_of small s) ≤ most)) c.args.most after.before after.before_is c.requires.small in
     let kept_is : kept_regrets c.args.most small wide ≡ small = ap (λ most. kept_regrets most small wide) after.before_is in
@@ -48,7 +49,7 @@ close_sets-requires-clause-growth g c =
     let wide : List ℤ = c.args.regrets.now in
     let first : List ℤ = c.take_small_rows-sizes.new.worths in
     let more : ℕ = c.in-Some.field-0 in
-    let after : IsMostAfter c.args.most c.take_small_rows-sizes.result more = if_some (IsMostAfter c.args.most c.take_small_rows-sizes.result) c.most_after-more.result more c.in-Some.is c.most_after-more.ensures in
+    let after : IsMostAfter c.args.most c.take_small_rows-sizes.result more = if_some (IsMostAfter c.args.most c.take_small_rows-sizes.result) c.most_after-more.result more c.in-Some.is c.most_after-more.ensures.within in
     let taken : AreTaken c.args.player rows first after.grown = if_some (AreTaken c.args.player rows first) c.take_small_rows-sizes.result after.grown after.grown_is c.take_small_rows-sizes.ensures.taken in
     let within = if_some (λ (most : ℕ). (most ≤ 2 ^ 62) × ((s : ℕ) → unsigned_abs (regret_of small s) ≤ most)) c.args.most after.before after.before_is c.requires.small in
     let kept_is : kept_regrets c.args.most small wide ≡ small = ap (λ most. kept_regrets most small wide) after.before_is in
@@ -62,7 +63,7 @@ close_sets-requires-clause-room g c =
     let wide : List ℤ = c.args.regrets.now in
     let first : List ℤ = c.take_small_rows-sizes.new.worths in
     let more : ℕ = c.in-Some.field-0 in
-    let after : IsMostAfter c.args.most c.take_small_rows-sizes.result more = if_some (IsMostAfter c.args.most c.take_small_rows-sizes.result) c.most_after-more.result more c.in-Some.is c.most_after-more.ensures in
+    let after : IsMostAfter c.args.most c.take_small_rows-sizes.result more = if_some (IsMostAfter c.args.most c.take_small_rows-sizes.result) c.most_after-more.result more c.in-Some.is c.most_after-more.ensures.within in
     let taken : AreTaken c.args.player rows first after.grown = if_some (AreTaken c.args.player rows first) c.take_small_rows-sizes.result after.grown after.grown_is c.take_small_rows-sizes.ensures.taken in
     let within = if_some (λ (most : ℕ). (most ≤ 2 ^ 62) × ((s : ℕ) → unsigned_abs (regret_of small s) ≤ most)) c.args.most after.before after.before_is c.requires.small in
     let kept_is : kept_regrets c.args.most small wide ≡ small = ap (λ most. kept_regrets most small wide) after.before_is in
@@ -77,7 +78,7 @@ close_sets-requires-clause-none_of_empty g c =
     let wide : List ℤ = c.args.regrets.now in
     let first : List ℤ = c.take_small_rows-sizes.new.worths in
     let more : ℕ = c.in-Some.field-0 in
-    let after : IsMostAfter c.args.most c.take_small_rows-sizes.result more = if_some (IsMostAfter c.args.most c.take_small_rows-sizes.result) c.most_after-more.result more c.in-Some.is c.most_after-more.ensures in
+    let after : IsMostAfter c.args.most c.take_small_rows-sizes.result more = if_some (IsMostAfter c.args.most c.take_small_rows-sizes.result) c.most_after-more.result more c.in-Some.is c.most_after-more.ensures.within in
     let taken : AreTaken c.args.player rows first after.grown = if_some (AreTaken c.args.player rows first) c.take_small_rows-sizes.result after.grown after.grown_is c.take_small_rows-sizes.ensures.taken in
     let within = if_some (λ (most : ℕ). (most ≤ 2 ^ 62) × ((s : ℕ) → unsigned_abs (regret_of small s) ≤ most)) c.args.most after.before after.before_is c.requires.small in
     let kept_is : kept_regrets c.args.most small wide ≡ small = ap (λ most. kept_regrets most small wide) after.before_is in
@@ -91,7 +92,7 @@ returns-in-Some-clause-small g c =
     let wide : List ℤ = c.args.regrets.now in
     let first : List ℤ = c.take_small_rows-sizes.new.worths in
     let more : ℕ = c.in-Some.field-0 in
-    let after : IsMostAfter c.args.most c.take_small_rows-sizes.result more = if_some (IsMostAfter c.args.most c.take_small_rows-sizes.result) c.most_after-more.result more c.in-Some.is c.most_after-more.ensures in
+    let after : IsMostAfter c.args.most c.take_small_rows-sizes.result more = if_some (IsMostAfter c.args.most c.take_small_rows-sizes.result) c.most_after-more.result more c.in-Some.is c.most_after-more.ensures.within in
     let taken : AreTaken c.args.player rows first after.grown = if_some (AreTaken c.args.player rows first) c.take_small_rows-sizes.result after.grown after.grown_is c.take_small_rows-sizes.ensures.taken in
     let within = if_some (λ (most : ℕ). (most ≤ 2 ^ 62) × ((s : ℕ) → unsigned_abs (regret_of small s) ≤ most)) c.args.most after.before after.before_is c.requires.small in
     let kept_is : kept_regrets c.args.most small wide ≡ small = ap (λ most. kept_regrets most small wide) after.before_is in
@@ -109,7 +110,7 @@ returns-in-Some-clause-regrets g c =
     let wide : List ℤ = c.args.regrets.now in
     let first : List ℤ = c.take_small_rows-sizes.new.worths in
     let more : ℕ = c.in-Some.field-0 in
-    let after : IsMostAfter c.args.most c.take_small_rows-sizes.result more = if_some (IsMostAfter c.args.most c.take_small_rows-sizes.result) c.most_after-more.result more c.in-Some.is c.most_after-more.ensures in
+    let after : IsMostAfter c.args.most c.take_small_rows-sizes.result more = if_some (IsMostAfter c.args.most c.take_small_rows-sizes.result) c.most_after-more.result more c.in-Some.is c.most_after-more.ensures.within in
     let taken : AreTaken c.args.player rows first after.grown = if_some (AreTaken c.args.player rows first) c.take_small_rows-sizes.result after.grown after.grown_is c.take_small_rows-sizes.ensures.taken in
     let within = if_some (λ (most : ℕ). (most ≤ 2 ^ 62) × ((s : ℕ) → unsigned_abs (regret_of small s) ≤ most)) c.args.most after.before after.before_is c.requires.small in
     let kept_is : kept_regrets c.args.most small wide ≡ small = ap (λ most. kept_regrets most small wide) after.before_is in
@@ -132,3 +133,9 @@ returns-in-None-clause-regrets g c =
     let sets : List InformationSet = player_sets c.args.form.now c.args.player in
     ap (λ most. kept_regrets most c.args.small_regrets.now c.close_wide.new.regrets) c.in-None.is ∙ c.close_wide.ensures.regrets
     ∙ ap (regrets_after (own_amount c.args.player (map g.A.Worth.amount c.args.rows.now)) c.args.play.now sets) c.widen.ensures
+
+pub returns-in-None-clause-stay_small : goal.returns-in-None-clause-stay_small
+returns-in-None-clause-stay_small g c before is small =
+    let grown : ℕ = nat_sum_over unsigned_abs (map g.A.Worth.amount c.args.rows.now) in
+    c.most_after-more.ensures.all (before + grown)
+    (record { before = before; grown = grown; before_is = is; grown_is = c.take_small_rows-sizes.ensures.sizes (omega (arith, small)); sum = refl; small = small })

@@ -1,8 +1,8 @@
-use Rattle.std.proofs.Common.{◌≡◌, ℕ, ◌<◌, ◌≤◌, List, [], ◌∷◌, length, length-set, get_or, map, take, ℤ, pos, unsigned_abs, FitsSigned, to_z, of_z, arith, ap, rules, sym, ◌∙◌, ⊎_elim}
+use Rattle.std.proofs.Common.{◌≡◌, ℕ, ◌+◌, ◌<◌, ◌≤◌, List, [], ◌∷◌, length, length-set, get_or, map, take, drop, ℤ, pos, unsigned_abs, FitsSigned, to_z, of_z, arith, ap, refl, rules, sym, ◌∙◌, ⊎_elim}
 use Rattle.std.specs.Int.{w64, w128}
 use Rattle.std.proofs.lemmas.Bool.{cases_eq, cases_lt}
 use Rattle.std.proofs.lemmas.Int.{to_z-of_z}
-use Rattle.std.proofs.lemmas.List.{get_or-set_other, get_or-set_same, get_or_past, length-map, take_all, take_more}
+use Rattle.std.proofs.lemmas.List.{get_or-set_other, get_or-set_same, get_or_past, length-map, take-append-drop, take_all, take_more}
 use Rattle.def_sums.specs.Sum.{nat_sum_over}
 use Rattle.def_sums.proofs.SumLaws.{nat_sum_over-append}
 use Rattle.def_round.specs.Round.{utility}
@@ -16,7 +16,7 @@ own_row-requires g c =
     let row_is : to_z w128 (of_z w128 c.worth_at.result) ≡ c.worth_at.result = to_z-of_z w128 c.worth_at.result fits in
     let fits_small : FitsSigned w64 c.in-Some.row = search rules in
     let small_is : to_z w64 (of_z w64 c.in-Some.row) ≡ c.in-Some.row = to_z-of_z w64 c.in-Some.row fits_small in
-    let known = c.in-Some.ensures in
+    let known = c.in-Some.ensures.within in
     omega (arith, ap unsigned_abs (small_is ∙ known.0), known.1, c.loop-i.invariant.1)
 
 pub loop-i-preserved : goal.loop-i-preserved
@@ -29,7 +29,7 @@ loop-i-preserved g c =
     let row_is : to_z w128 (of_z w128 c.worth_at.result) ≡ row = to_z-of_z w128 c.worth_at.result fits ∙ c.worth_at.ensures in
     let fits_small : FitsSigned w64 c.in-Some.row = search rules in
     let small_is : to_z w64 (of_z w64 c.in-Some.row) ≡ c.in-Some.row = to_z-of_z w64 c.in-Some.row fits_small in
-    let known = c.in-Some.ensures in
+    let known = c.in-Some.ensures.within in
     let taken : to_z w64 (of_z w64 c.in-Some.row) ≡ row = small_is ∙ known.0 ∙ row_is in
     let fits_own : FitsSigned w64 c.own_row.result = search rules in
     let own_is : to_z w64 (of_z w64 c.own_row.result) ≡ utility c.args.player row = to_z-of_z w64 c.own_row.result fits_own ∙ c.own_row.ensures ∙ ap (utility c.args.player) taken in
@@ -59,3 +59,27 @@ returns-clause-taken g c =
       together = omega (arith, c.loop-i.invariant.1, all);
       small = omega (arith, c.loop-i.invariant.1, all);
     }
+
+pub returns-in_default-clause-sizes : goal.returns-in_default-clause-sizes
+returns-in_default-clause-sizes g c small =
+    let rows : List ℤ = map g.A.Worth.amount c.args.rows.now in
+    let count : length rows ≡ length c.args.rows.now = length-map c.args.rows.now g.A.Worth.amount in
+    let i : ℕ = c.loop-i.i in
+    let row : ℤ = amount_of rows i in
+    let fits : FitsSigned w128 c.worth_at.result = search rules in
+    let row_is : to_z w128 (of_z w128 c.worth_at.result) ≡ row = to_z-of_z w128 c.worth_at.result fits ∙ c.worth_at.ensures in
+    let below : i < length rows = omega (arith, count, c.loop-i-test.true) in
+    let large = c.in_default.ensures.none refl (omega (arith, c.loop-i.invariant.1)) in
+    absurd (
+    omega (
+      arith,
+      small,
+      large,
+      ap unsigned_abs row_is,
+      c.loop-i.invariant.1,
+      ap (nat_sum_over unsigned_abs) (take_more rows i (pos 0) below),
+      nat_sum_over-append unsigned_abs (take i rows) (get_or rows i (pos 0) ∷ []),
+      nat_sum_over-append unsigned_abs (take (i + 1) rows) (drop (i + 1) rows),
+      ap (nat_sum_over unsigned_abs) (take-append-drop (i + 1) rows),
+    )
+    )
