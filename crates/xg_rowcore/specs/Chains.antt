@@ -4,6 +4,10 @@ use Rattle.def_sums.specs.Limits.{most_stripes}
 use Rattle.def_history.specs.History.{stripe_of}
 use Rattle.def_history.specs.Packets.{RowAmount}
 
+-- how many stripes the program's rows are cut into
+abbrev pub usual_stripes : ℕ
+usual_stripes = 16
+
 -- the rows of entries
 abbrev pub rows_of_entries : List RowAmount → List ℕ
 rows_of_entries entries = map (λ entry. entry.row) entries

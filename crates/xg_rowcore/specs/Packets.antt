@@ -4,10 +4,12 @@ use Rattle.std.specs.List.{last_or}
 use Rattle.std.specs.Option.{ForSome}
 use Rattle.def_history.specs.Packets.{RowAmount}
 
--- the entries, in their order, and how many there is room for
+-- the entries, in their order, how many there is room for, and for how many stripes there are chains through their rows,
+-- or 0 where there are none
 pub record Listed : Type 0 where
   pub list : List RowAmount
   pub room : ℕ
+  pub chained : ℕ
 
 -- each row with the amount at its place
 abbrev pub entries_of_rows : List ℕ → List ℤ → List RowAmount

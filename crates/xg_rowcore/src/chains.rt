@@ -20,7 +20,8 @@ pub(crate) struct Chains {
 impl Chains {
     /// No chains, and memory for those through so many rows.
     pub(crate) fn new(alloc: Global, room: usize) -> Result<Chains, AllocError>
-        ensures { IfOk result (λ c. KeepsChains [] room c.stripes c.first.items c.next.items) }
+        ensures kept { IfOk result (λ c. KeepsChains [] room c.stripes c.first.items c.next.items) }
+        ensures none { IfOk result (λ c. c.stripes ≡ 0) }
     {
         let first = vec![in alloc; 0u32; MOST_STRIPES as usize]?;
         let next = vec![in alloc; 0u32; room]?;

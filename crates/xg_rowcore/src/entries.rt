@@ -4,7 +4,7 @@ ghost use Rattle.std.specs.Prelude.{pos, ◌+ℤ◌, unsigned_abs, slice_index_o
 ghost use Rattle.def_sums.specs.Limits.{most_stripes};
 ghost use Rattle.def_history.specs.History.{stripe_of};
 ghost use Rattle.def_history.specs.Packets.{AreRising};
-ghost use Rattle.xg_rowcore.specs.Chains.{IsNextOf, rows_of_entries};
+ghost use Rattle.xg_rowcore.specs.Chains.{IsNextOf, rows_of_entries, usual_stripes};
 ghost use Rattle.xg_rowcore.specs.Packets.{IsAboveLast, entry_in, with_added, with_amount, zeros_at};
 
 use crate::amounts::{Amounts, plus};
@@ -32,7 +32,7 @@ impl Model for RowEntries {
 
     ghost Value = { Listed };
 
-    ghost view = { λ e. record { list = entries_of_rows e.rows.items e.amounts.list; room = e.room } };
+    ghost view = { λ e. record { list = entries_of_rows e.rows.items e.amounts.list; room = e.room; chained = e.chains.stripes } };
 
     ghost invariant = { λ e. (length e.rows.items ≡ length e.amounts.list)
         × AreRising (entries_of_rows e.rows.items e.amounts.list)
@@ -42,7 +42,7 @@ impl Model for RowEntries {
 
 impl RowEntries {
     pub(crate) fn new(alloc: Global, room: usize) -> Result<RowEntries, AllocError>
-        ensures { IfOk result (λ entries. entries ≡ record { list = []; room = room }) }
+        ensures { IfOk result (λ entries. entries ≡ record { list = []; room = room; chained = 0 }) }
     {
         let rows = Vec::with_capacity(alloc, room)?;
         let amounts = Amounts::new(alloc, room)?;
@@ -76,7 +76,7 @@ impl RowEntries {
     }
 
     pub(crate) fn clear(&mut self)
-        ensures { self.new ≡ record { list = []; room = self.old.room } }
+        ensures { self.new ≡ record { list = []; room = self.old.room; chained = 0 } }
     {
         self.rows.clear();
         self.amounts.reset(0);
@@ -89,6 +89,7 @@ impl RowEntries {
         ensures { self.new ≡ record {
           list = self.old.list ++ record { row = row; amount = amount } ∷ [];
           room = self.old.room;
+          chained = 0;
         } }
     {
         self.rows.push_reserved(row);
@@ -99,7 +100,11 @@ impl RowEntries {
     pub(crate) fn add(&mut self, i: usize, more: i128)
         requires there { i < length self.old.list }
         requires fits { unsigned_abs ((entry_in self.old.list i).amount +ℤ more) < 2 ^ 127 }
-        ensures { self.new ≡ record { list = with_added self.old.list i more; room = self.old.room } }
+        ensures { self.new ≡ record {
+          list = with_added self.old.list i more;
+          room = self.old.room;
+          chained = self.old.chained;
+        } }
     {
         let (_row, amount) = self.entry(i);
         self.put(i, plus(amount, more));
@@ -108,7 +113,7 @@ impl RowEntries {
     /// Takes these rows with their chains, each with the amount 0.
     pub(crate) fn take_rows(&mut self, rows: &LinkedRows)
         requires { length rows.now ≤ self.old.room }
-        ensures { self.new ≡ record { list = zeros_at rows.now; room = self.old.room } }
+        ensures { self.new ≡ record { list = zeros_at rows.now; room = self.old.room; chained = usual_stripes } }
     {
         rows.copy_to(&mut self.rows, &mut self.chains);
         self.amounts.reset(self.rows.len());
@@ -116,14 +121,20 @@ impl RowEntries {
 
     pub(crate) fn put(&mut self, i: usize, amount: i128)
         requires { i < length self.old.list }
-        ensures { self.new ≡ record { list = with_amount self.old.list i amount; room = self.old.room } }
+        ensures { self.new ≡ record {
+          list = with_amount self.old.list i amount;
+          room = self.old.room;
+          chained = self.old.chained;
+        } }
     {
         self.amounts.put(i, amount);
     }
 
     pub(crate) fn group(&mut self, stripes: u32)
         requires { (1 ≤ stripes) × (stripes ≤ most_stripes) }
-        ensures { self.new ≡ self.old }
+        ensures list { self.new.list ≡ self.old.list }
+        ensures room { self.new.room ≡ self.old.room }
+        ensures chained { length self.old.list < 2 ^ 32 → self.new.chained ≡ stripes }
     {
         if self.chains.stripes != stripes && self.rows.len() <= u32::MAX as usize {
             self.chains.link(&self.rows, stripes);

@@ -3,7 +3,7 @@ ghost use Rattle.std.specs.Prelude.{◌≡◌, ◌<◌, ◌≤◌, ◌^◌, leng
 ghost use Rattle.std.specs.List.Sorted.{IsStrictlyIncreasing};
 ghost use Rattle.def_sums.specs.Limits.{most_stripes};
 ghost use Rattle.def_history.specs.Packets.{AreRising};
-ghost use Rattle.xg_rowcore.specs.Chains.{KeepsChains};
+ghost use Rattle.xg_rowcore.specs.Chains.{KeepsChains, usual_stripes};
 ghost use Rattle.xg_rowcore.specs.Packets.{zeros_at};
 
 use crate::chains::Chains;
@@ -21,9 +21,9 @@ pub struct LinkedRows {
 }
 
 impl Model for LinkedRows {
-    ghost use Rattle.std.specs.Prelude.{ℕ, List, length};
+    ghost use Rattle.std.specs.Prelude.{◌≡◌, ℕ, List, length};
     ghost use Rattle.def_history.specs.Packets.{AreRising};
-    ghost use Rattle.xg_rowcore.specs.Chains.{KeepsChains};
+    ghost use Rattle.xg_rowcore.specs.Chains.{KeepsChains, usual_stripes};
     ghost use Rattle.xg_rowcore.specs.Packets.{zeros_at};
 
     ghost Value = { List ℕ };
@@ -31,7 +31,8 @@ impl Model for LinkedRows {
     ghost view = { λ l. l.rows.items };
 
     ghost invariant = { λ l. AreRising (zeros_at l.rows.items)
-        × KeepsChains l.rows.items (length l.rows.items) l.chains.stripes l.chains.first.items l.chains.next.items };
+        × KeepsChains l.rows.items (length l.rows.items) l.chains.stripes l.chains.first.items l.chains.next.items
+        × (l.chains.stripes ≡ usual_stripes) };
 }
 
 impl LinkedRows {
@@ -63,6 +64,7 @@ impl LinkedRows {
         ensures rising { AreRising (zeros_at self.now) }
         ensures chains { KeepsChains self.now (length chains.old.next.items) chains.new.stripes chains.new.first.items
             chains.new.next.items }
+        ensures stripes { chains.new.stripes ≡ usual_stripes }
     {
         copy_rows(&self.rows, rows);
         chains.copy(&self.chains);

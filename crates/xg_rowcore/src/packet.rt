@@ -3,7 +3,7 @@ ghost use Rattle.std.specs.Prelude.{◌≡◌, ◌<◌, ◌≤◌, ◌+◌, ◌^
 ghost use Rattle.def_sums.specs.Limits.{most_stripes};
 ghost use Rattle.def_history.specs.History.{stripe_of};
 ghost use Rattle.def_history.specs.Packets.{AreRising};
-ghost use Rattle.xg_rowcore.specs.Chains.{IsNextOf, rows_of_entries};
+ghost use Rattle.xg_rowcore.specs.Chains.{IsNextOf, rows_of_entries, usual_stripes};
 ghost use Rattle.xg_rowcore.specs.Packets.{IsAboveLast, entry_in, with_added, with_amount, zeros_at};
 
 use crate::entries::RowEntries;
@@ -25,6 +25,7 @@ impl Packet {
     pub fn new(alloc: Global, room: usize) -> Result<Packet, AllocError>
         ensures empty { IfOk result (λ packet. packet.entries.list ≡ []) }
         ensures room { IfOk result (λ packet. packet.entries.room ≡ room) }
+        ensures chained { IfOk result (λ packet. packet.entries.chained ≡ 0) }
         ensures job { IfOk result (λ packet. packet.job ≡ 0) }
     {
         let entries = RowEntries::new(alloc, room)?;
@@ -57,7 +58,7 @@ impl Packet {
     /// Empties the packet, for another job.
     pub fn start(&mut self, job: u32)
         ensures job { self.new.job ≡ job }
-        ensures entries { self.new.entries ≡ record { list = []; room = self.old.entries.room } }
+        ensures entries { self.new.entries ≡ record { list = []; room = self.old.entries.room; chained = 0 } }
     {
         self.job = job;
         self.entries.clear();
@@ -67,7 +68,11 @@ impl Packet {
     pub fn start_with(&mut self, job: u32, rows: &LinkedRows)
         requires room { length rows.now ≤ self.old.entries.room }
         ensures job { self.new.job ≡ job }
-        ensures entries { self.new.entries ≡ record { list = zeros_at rows.now; room = self.old.entries.room } }
+        ensures entries { self.new.entries ≡ record {
+          list = zeros_at rows.now;
+          room = self.old.entries.room;
+          chained = usual_stripes;
+        } }
     {
         self.job = job;
         self.entries.take_rows(rows);
@@ -80,6 +85,7 @@ impl Packet {
         ensures entries { self.new.entries ≡ record {
           list = with_amount self.old.entries.list i amount;
           room = self.old.entries.room;
+          chained = self.old.entries.chained;
         } }
     {
         self.entries.put(i, amount);
@@ -93,6 +99,7 @@ impl Packet {
         ensures entries { self.new.entries ≡ record {
           list = self.old.entries.list ++ record { row = row; amount = amount } ∷ [];
           room = self.old.entries.room;
+          chained = 0;
         } }
     {
         self.entries.push(row, amount);
@@ -106,6 +113,7 @@ impl Packet {
         ensures entries { self.new.entries ≡ record {
           list = with_added self.old.entries.list i more;
           room = self.old.entries.room;
+          chained = self.old.entries.chained;
         } }
     {
         self.entries.add(i, more);
@@ -117,7 +125,9 @@ impl Packet {
         requires some { 1 ≤ stripes }
         requires few { stripes ≤ most_stripes }
         ensures job { self.new.job ≡ self.old.job }
-        ensures entries { self.new.entries ≡ self.old.entries }
+        ensures list { self.new.entries.list ≡ self.old.entries.list }
+        ensures room { self.new.entries.room ≡ self.old.entries.room }
+        ensures chained { length self.old.entries.list < 2 ^ 32 → self.new.entries.chained ≡ stripes }
     {
         self.entries.group(stripes);
     }

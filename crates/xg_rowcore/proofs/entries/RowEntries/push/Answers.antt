@@ -48,5 +48,5 @@ returns c =
     let amounts : c.push.new.self.list ≡ c.self.inside.amounts.list ++ c.args.amount ∷ [] = ap (λ (l : AmountList). l.list) c.push.ensures ∙ ap (λ a. c.self.inside.amounts.list ++ a ∷ []) (to_z-of_z w128 c.args.amount c.ranges.amount) in
     let entries : entries_of_rows c.push_reserved.new.self.items c.push.new.self.list ≡ entries_of_rows c.self.inside.rows.items c.self.inside.amounts.list ++ record { row = c.args.row; amount = c.args.amount } ∷ [] =
     rw (rows, amounts) (entries_from-push c.self.inside.rows.items c.self.inside.amounts.list c.args.row c.args.amount c.self.invariant.0) in
-    (λ i. record { list = entries i; room = c.self.inside.room })
-    ∙ ap (λ (l : Listed). record { list = l.list ++ record { row = c.args.row; amount = c.args.amount } ∷ []; room = l.room }) c.self.view_is
+    (λ i. record { list = entries i; room = c.self.inside.room; chained = 0 })
+    ∙ ap (λ (l : Listed). record { list = l.list ++ record { row = c.args.row; amount = c.args.amount } ∷ []; room = l.room; chained = 0 }) c.self.view_is

@@ -43,5 +43,5 @@ returns c =
     ap (λ (l : AmountList). l.list) c.put.ensures ∙ ap (set amounts c.args.i) (to_z-of_z w128 c.args.amount c.ranges.amount) in
     let entries : entries_of_rows rows c.put.new.self.list ≡ with_amount (entries_of_rows rows amounts) c.args.i c.args.amount =
     ap (entries_of_rows rows) put ∙ entries_from-set rows amounts c.args.i c.args.amount c.self.invariant.0 in
-    (λ j. record { list = entries j; room = c.self.inside.room })
-    ∙ ap (λ (l : Listed). record { list = with_amount l.list c.args.i c.args.amount; room = l.room }) c.self.view_is
+    (λ j. record { list = entries j; room = c.self.inside.room; chained = c.self.inside.chains.stripes })
+    ∙ ap (λ (l : Listed). record { list = with_amount l.list c.args.i c.args.amount; room = l.room; chained = l.chained }) c.self.view_is

@@ -29,4 +29,4 @@ returns c =
     let count : c.len.result ≡ length rows = c.len.ensures ∙ c.copy_to.new.rows.ok.0 ∙ ap length taken in
     let zeros : c.reset.new.self.list ≡ replicate (length rows) (pos 0) = ap (λ (l : AmountList). l.list) c.reset.ensures ∙ ap (λ n. replicate n (pos 0)) count in
     let entries : entries_of_rows c.copy_to.new.rows.items c.reset.new.self.list ≡ zeros_at rows = rw (taken, zeros) (entries_of_zeros rows) in
-    (λ i. record { list = entries i; room = (ap (λ (l : Listed). l.room) c.self.view_is) i })
+    (λ i. record { list = entries i; room = (ap (λ (l : Listed). l.room) c.self.view_is) i; chained = c.copy_to.ensures.stripes i })
