@@ -4,6 +4,7 @@ ghost use Rattle.def_sums.specs.Limits.{most_root};
 ghost use Rattle.def_plan.specs.Form.{sequence_count};
 ghost use Rattle.def_plan.specs.FormRows.{row_count};
 ghost use Rattle.def_history.specs.JobPackets.{packet_of};
+ghost use Rattle.xg_rowcore.specs.Chains.{usual_stripes};
 ghost use Rattle.xg_rowcore.specs.Packets.{zeros_at};
 ghost use Rattle.xg_touched.specs.Filling.{amount_upto, entries_at_rows, entries_upto};
 ghost use Rattle.xg_touched.specs.Touched.{job_rows};
@@ -84,6 +85,7 @@ impl TouchedRows {
         ensures entries { into.new.entries ≡ record {
           list = packet_of form.now one.now two.now self.now.range;
           room = into.old.entries.room;
+          chained = usual_stripes;
         } }
     {
         into.start_with(job, &self.rows);
@@ -108,6 +110,7 @@ impl TouchedRows {
             into.new.entries ≡ record {
               list = entries_upto amount result self.now.rows;
               room = into.old.entries.room;
+              chained = into.old.entries.chained;
             } }
     {
         let count = form.sequence_count(Player::One);
@@ -146,6 +149,7 @@ impl TouchedRows {
             into.new.entries ≡ record {
               list = entries_at_rows amount self.now.rows;
               room = into.old.entries.room;
+              chained = into.old.entries.chained;
             } }
     {
         for i in ones..self.len() {

@@ -10,5 +10,6 @@ returns-clause-entries c =
     let form = c.args.form.now in
     let rows = ap (λ (x : JobRows). x.rows) c.requires.rows in
     let room = ap (λ (x : Listed). x.room) c.put_rows_of_one-ones.ensures.entries ∙ ap (λ (x : Listed). x.room) c.start_with.ensures.entries in
+    let chained = ap (λ (x : Listed). x.chained) c.put_rows_of_one-ones.ensures.entries ∙ ap (λ (x : Listed). x.chained) c.start_with.ensures.entries in
     c.put_rows_of_two.ensures.entries
-    ∙ (λ i. record { list = entries_at_rows (λ row. sym (by_number form c.args.one.now c.args.two.now c.args.self.now.range row c.requires.leaves) i) (rows i); room = room i })
+    ∙ (λ i. record { list = entries_at_rows (λ row. sym (by_number form c.args.one.now c.args.two.now c.args.self.now.range row c.requires.leaves) i) (rows i); room = room i; chained = chained i })

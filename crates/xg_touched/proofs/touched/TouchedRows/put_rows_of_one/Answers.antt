@@ -10,7 +10,7 @@ use Rattle.xg_touched.proofs.touched.TouchedRows.put_rows_of_one.Goals as goal
 pub loop-i-init : goal.loop-i-init
 loop-i-init c =
     let f : ℕ → ℤ = amount_upto c.args.form.now c.args.one.now c.args.two.now c.args.self.now.range.first c.args.self.now.range.count in
-    record { job = refl; list = c.requires.zeros ∙ sym (upto_none f c.args.self.now.rows); room = refl }
+    record { job = refl; list = c.requires.zeros ∙ sym (upto_none f c.args.self.now.rows); room = refl; chained = refl }
 
 pub put-requires : goal.put-requires
 put-requires c =
@@ -36,6 +36,7 @@ loop-i-preserved c =
           ∙ ap (λ es. with_amount es i amount) c.loop-i.invariant.list
           ∙ upto_more f i amount rows low amount_is;
       room = ap (λ (x : Listed). x.room) c.put.ensures.entries ∙ c.loop-i.invariant.room;
+      chained = ap (λ (x : Listed). x.chained) c.put.ensures.entries ∙ c.loop-i.invariant.chained;
     }
 
 pub returns : goal.returns
@@ -48,5 +49,5 @@ returns c =
       ones = omega (arith, long);
       others = λ below. absurd (omega (arith, long));
       job = c.loop-i.invariant.job;
-      entries = λ t. record { list = list t; room = c.loop-i.invariant.room t };
+      entries = λ t. record { list = list t; room = c.loop-i.invariant.room t; chained = c.loop-i.invariant.chained t };
     }

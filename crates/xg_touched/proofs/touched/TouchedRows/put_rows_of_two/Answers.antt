@@ -34,6 +34,7 @@ loop-i-preserved c =
           ∙ ap (λ es. with_amount es i amount) c.loop-i.invariant.list
           ∙ upto_more f i amount rows low amount_is;
       room = ap (λ (x : Listed). x.room) c.put.ensures.entries ∙ c.loop-i.invariant.room;
+      chained = ap (λ (x : Listed). x.chained) c.put.ensures.entries ∙ c.loop-i.invariant.chained;
     }
 
 pub amount_of_two-requires-clause-row : goal.amount_of_two-requires-clause-row
@@ -52,4 +53,4 @@ returns c =
     let f : ℕ → ℤ = amount_upto c.args.form.now c.args.one.now c.args.two.now c.args.self.now.range.first c.args.self.now.range.count in
     let all : length rows ≤ c.loop-i.i = omega (arith, c.len-i-end.ensures, c.loop-i-test.false) in
     let list = c.loop-i.invariant.list ∙ upto_all f c.loop-i.i rows all in
-    record { job = c.loop-i.invariant.job; entries = λ t. record { list = list t; room = c.loop-i.invariant.room t } }
+    record { job = c.loop-i.invariant.job; entries = λ t. record { list = list t; room = c.loop-i.invariant.room t; chained = c.loop-i.invariant.chained t } }

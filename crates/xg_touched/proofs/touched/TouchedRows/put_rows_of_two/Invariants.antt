@@ -7,4 +7,5 @@ invariant-loop-i l = record {
   job : l.into.job ≡ l.initial.into.job;
   list : l.into.entries.list ≡ entries_upto (amount_upto l.form l.one l.two l.self.range.first l.self.range.count) l.i l.self.rows;
   room : l.into.entries.room ≡ l.initial.into.entries.room;
+  chained : l.into.entries.chained ≡ l.initial.into.entries.chained;
 }
