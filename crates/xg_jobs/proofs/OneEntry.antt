@@ -1,20 +1,21 @@
 -- One entry for the leaves of a group that have the same sequence of the other player.
 use Rattle.std.proofs.Common.{◌≡◌, ℕ, zero, suc, ◌+◌, ◌-◌, ◌^◌, ◌<◌, ◌≤◌, Bool, true, false, Some, cond, eqb, List, [], ◌∷◌, ◌++◌, length, get_or, slice_index, set, take, drop, map, All, ℤ, pos, ◌+ℤ◌, unsigned_abs, FitsSigned, to_z, of_z, refl, sym, ap, subst, ◌∙◌, arith, ⊎_elim}
 use Rattle.std.specs.Int.{w64}
-use Rattle.std.proofs.lemmas.List.{drop_all, take_all, take_more, take-take, take-set-le, drop-set-add, drop-take, take-append-le, drop-append-le, length-set, length-map, length-append, length-drop, length-take-le, get_or-drop, get_or-set_same, get_or-set_other}
+use Rattle.std.proofs.lemmas.List.{drop_all, take_all, take_more, take-take, take-set-le, drop-set-add, drop-take, take-append-le, drop-append-le, drop-map, map-append, length-set, length-map, length-append, length-drop, length-take-le, get_or-drop, get_or-set_same, get_or-set_other}
 use Rattle.std.proofs.lemmas.List.Elements.{All-pop, All-push, All-set}
 use Rattle.std.proofs.lemmas.Bool.{cases_lt}
 use Rattle.std.proofs.lemmas.Int.{fits_signed_from_abs, ints, to_z-of_z}
-use Rattle.std.proofs.Math.Seq.{take-append_seam}
+use Rattle.std.proofs.Math.ListN.{get_or-append}
+use Rattle.std.proofs.Math.Seq.{get_or-append_seam, take-append_seam}
 use Rattle.std.specs.List.{range_with_len}
 use Rattle.def_sums.proofs.Ranges.{All-range, at_most_sum, map-range_same}
 use Rattle.def_sums.proofs.RingLaws.{unsigned_abs-+ℤ, +ℤ-zero, +ℤ_assoc}
 use Rattle.def_sums.proofs.SumLaws.{sum_over-append, nat_sum_over-append, nat_sum_over-mono}
 use Rattle.def_tree.specs.Rules.{most_nodes}
-use Rattle.xg_jobs.specs.Entries.{KeepsGroups}
-use Rattle.xg_jobs.specs.Groups.{GroupLeaf, group_at, group_mass, groups_mass, weight_with, weights_of}
+use Rattle.xg_jobs.specs.Entries.{AreMergedGroups, KeepsGroups}
+use Rattle.xg_jobs.specs.Groups.{GroupLeaf, HaveOwnSequences, group_at, group_mass, groups_mass, weight_with, weights_of}
 use Rattle.xg_jobs.proofs.GroupSums.{leaf_at, mass_front, weight_within}
-use Rattle.xg_jobs.specs.Merging.{MayReplace, TakesLeaf, TakesGroup, MergedUpto, AreMerged, CanMerge}
+use Rattle.xg_jobs.specs.Merging.{MayReplace, TakesLeaf, TakesGroup, MergedUpto, AreMerged, CanMerge, TellPlaces}
 
 -- an entry with more weight
 abbrev pub more : GroupLeaf → ℤ → GroupLeaf
@@ -104,6 +105,54 @@ leaf_pushed begin e old from =
       within = λ others all here. subst (All (λ y. y.other < others)) (sym back) (All-push (λ y. y.other < others) (drop begin old) e all here);
     }
 
+-- an entry with more weight has the same sequence
+same_others : (xs : List GroupLeaf) (i : ℕ) (x : GroupLeaf) (w : ℤ) → get_or xs i x ≡ x
+    → map (λ e. e.other) (set xs i (more x w)) ≡ map (λ e. e.other) xs
+same_others [] i x w read = refl
+same_others (y ∷ ys) zero x w read = ap (λ (z : GroupLeaf). z.other ∷ map (λ e. e.other) ys) (sym read)
+same_others (y ∷ ys) (suc i) x w read = ap (λ os. y.other ∷ os) (same_others ys i x w read)
+
+pub told_added : (begin place : ℕ) (places : List ℕ) (x : GroupLeaf) (w : ℤ) (old : List GroupLeaf) → get_or old place x ≡ x
+    → TellPlaces begin places old → TellPlaces begin places (set old place (more x w))
+told_added begin place places x w old read told i from low =
+    ap (λ os. slice_index places (slice_index os i)) (same_others old place x w read)
+    ∙ told i from (omega (arith, low, length-set old place (more x w)))
+
+-- an entry of its own, where none has the same sequence
+pub told_pushed : (begin : ℕ) (places : List ℕ) (e : GroupLeaf) (old : List GroupLeaf) → e.other < length places
+    → TellPlaces begin places old
+    → ((i : ℕ) → begin ≤ i → i < length old → slice_index (map (λ e. e.other) old) i ≡ e.other → ⊥)
+    → TellPlaces begin (set places e.other (length old)) (old ++ e ∷ [])
+told_pushed begin places e old inside told none i from low =
+    let others : List GroupLeaf → List ℕ = λ es. map (λ (x : GroupLeaf). x.other) es in
+    let there : List ℕ = set places e.other (length old) in
+    let both : others (old ++ e ∷ []) ≡ others old ++ e.other ∷ [] = map-append (λ (x : GroupLeaf). x.other) old (e ∷ []) in
+    let count : length (others old) ≡ length old = length-map old (λ (x : GroupLeaf). x.other) in
+    ⊎_elim
+    (λ less.
+    let at : slice_index (others (old ++ e ∷ [])) i ≡ slice_index (others old) i =
+    ap (λ os. slice_index os i) both ∙ get_or-append (others old) (e.other ∷ []) 0 i (omega (arith, less, count)) in
+    ap (slice_index there) at
+    ∙ get_or-set_other places e.other (slice_index (others old) i) (length old) 0 (none i from less) ∙ told i from less)
+    (λ later.
+    let last : i ≡ length (others old) = omega (arith, later, low, count, length-append old (e ∷ [])) in
+    let at : slice_index (others (old ++ e ∷ [])) i ≡ e.other =
+    (λ k. slice_index (both k) (last k)) ∙ get_or-append_seam (others old) e.other [] 0 in
+    ap (slice_index there) at ∙ get_or-set_same places e.other (length old) 0 inside ∙ omega (arith, last, count))
+    (cases_lt i (length old))
+
+-- and so none has the sequence of another
+pub told_once : (begin : ℕ) (places : List ℕ) (entries : List GroupLeaf) → TellPlaces begin places entries
+    → HaveOwnSequences (drop begin entries)
+told_once begin places entries told i j low_i low_j same =
+    let others : List GroupLeaf → List ℕ = λ es. map (λ (x : GroupLeaf). x.other) es in
+    let at : (k : ℕ) → slice_index (others (drop begin entries)) k ≡ slice_index (others entries) (begin + k) =
+    λ k. ap (λ os. slice_index os k) (sym (drop-map (λ (x : GroupLeaf). x.other) begin entries)) ∙ get_or-drop begin (others entries) k 0 in
+    let long = length-drop begin entries in
+    let one = told (begin + i) (omega arith) (omega (arith, low_i, long)) in
+    let two = told (begin + j) (omega arith) (omega (arith, low_j, long)) in
+    omega (arith, sym one ∙ ap (slice_index places) (sym (at i) ∙ same ∙ at j) ∙ two)
+
 -- no leaf yet
 pub takes_none : (old : List GroupLeaf) → TakesGroup [] old old
 takes_none old =
@@ -112,13 +161,14 @@ takes_none old =
       front = take_all (length old) old (omega arith);
       longer = omega arith;
       shorter = omega arith;
-      stands = subst (λ xs. MayReplace xs []) (sym none) (record { weights = λ b. refl; mass = omega arith; within = λ others all. all });
+      stands = subst (λ xs. MayReplace xs []) (sym none) (record { weights = λ b. refl; mass = omega arith; within = λ others all. all; once = λ i j low. absurd (omega arith) });
     }
 
 -- and one leaf more
 pub takes_more : (leaves : List GroupLeaf) (e : GroupLeaf) (old now new : List GroupLeaf) → TakesGroup leaves old now
-    → TakesLeaf (length old) e now new → TakesGroup (leaves ++ e ∷ []) old new
-takes_more leaves e old now new group leaf = record {
+    → TakesLeaf (length old) e now new → HaveOwnSequences (drop (length old) new)
+    → TakesGroup (leaves ++ e ∷ []) old new
+takes_more leaves e old now new group leaf once = record {
   front = leaf.front ∙ group.front;
   longer = omega (arith, group.longer, leaf.longer);
   shorter = omega (arith, group.shorter, leaf.shorter, length-append leaves (e ∷ []));
@@ -131,6 +181,7 @@ takes_more leaves e old now new group leaf = record {
     within = λ others all.
         let parts = All-pop (λ x. x.other < others) (leaves ++ e ∷ []) leaves (Some e) refl all in
         leaf.within others (group.stands.within others parts.0) parts.1;
+    once = once;
   };
 }
 
@@ -264,6 +315,11 @@ merged_weights starts entries old_starts old_entries others are =
     map-range_same (λ s. weights_of others (group_at starts entries s)) (λ s. weights_of others (group_at old_starts old_entries s)) 0 n
     (λ s from low. map-range_same (λ b. weight_with b (group_at starts entries s)) (λ b. weight_with b (group_at old_starts old_entries s)) 0 others (λ b _ _. (are.each s (omega (arith, are.count))).weights b))
     ∙ ap (λ k. map (λ s. weights_of others (group_at old_starts old_entries s)) (range_with_len 0 (k - 1))) are.count
+
+-- and its groups have each sequence once
+pub merged_once : (starts : List ℕ) (entries : List GroupLeaf) (old_starts : List ℕ) (old_entries : List GroupLeaf)
+    → AreMerged starts entries old_starts old_entries → AreMergedGroups starts entries
+merged_once starts entries old_starts old_entries are s low = (are.each s (omega (arith, low, are.count))).once
 
 -- a vector whose items were written over by as many
 pub written_over : {A : Type 0} (n : ℕ) (new old : List A) → length new ≡ n → take n (new ++ drop (length new) old) ≡ new

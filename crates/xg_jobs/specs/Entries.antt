@@ -9,7 +9,7 @@ use Rattle.xg_jobs.specs.declared.entry.TinyEntry.{TinyEntry}
 use Rattle.xg_jobs.specs.declared.entry.WideEntry.{WideEntry}
 use Rattle.xg_jobs.specs.declared.entry.GroupEntries.{GroupEntries}
 use Rattle.xg_jobs.specs.declared.entry.GroupEntries.TheVariants.{Small, Tiny, Wide}
-use Rattle.xg_jobs.specs.Groups.{GroupLeaf, IsSmall, IsTiny, group_at, groups_mass}
+use Rattle.xg_jobs.specs.Groups.{GroupLeaf, HaveOwnSequences, IsSmall, IsTiny, group_at, groups_mass}
 use Rattle.xg_jobs.specs.Grouping.{pair_weights, weights_in}
 
 abbrev pub tiny_leaf : TinyEntry → GroupLeaf
@@ -42,7 +42,12 @@ pub record KeepsGroups (starts : List ℕ) (entries : List GroupLeaf) (others ma
   pub total : groups_mass starts entries (length starts - 1) ≤ mass
   pub light : mass ≤ most_mass
 
+-- no group has two entries with the same sequence of the other player
+abbrev pub AreMergedGroups : List ℕ → List GroupLeaf → Type 0
+AreMergedGroups starts entries = (s : ℕ) → s + 1 < length starts → HaveOwnSequences (group_at starts entries s)
+
 -- the leaves of each of player one's sequences, and nothing but them
 pub record AreGroupsOf (form : SequenceForm) (starts : List ℕ) (entries : List GroupLeaf) : Type 0 where
   pub keeps : KeepsGroups starts entries (sequence_count form.sets_two) (mass_of form.leaves)
   pub weights : weights_in starts entries (sequence_count form.sets_two) ≡ pair_weights form One
+  pub merged : AreMergedGroups starts entries

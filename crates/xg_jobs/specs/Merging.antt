@@ -1,14 +1,15 @@
 -- Groups in which all leaves with the same pair of sequences are one entry.
-use Rattle.std.specs.Prelude.{◌≡◌, ℕ, ◌+◌, ◌-◌, ◌^◌, ◌<◌, ◌≤◌, ◌==◌, if◌then◌else◌, List, length, All, slice_index, take, drop, pos, ◌+ℤ◌, unsigned_abs}
+use Rattle.std.specs.Prelude.{◌≡◌, ℕ, ◌+◌, ◌-◌, ◌^◌, ◌<◌, ◌≤◌, ◌==◌, if◌then◌else◌, List, length, All, slice_index, map, take, drop, pos, ◌+ℤ◌, unsigned_abs}
 use Rattle.def_tree.specs.Rules.{most_nodes}
-use Rattle.xg_jobs.specs.Groups.{GroupLeaf, group_at, group_mass, weight_with}
+use Rattle.xg_jobs.specs.Groups.{GroupLeaf, HaveOwnSequences, group_at, group_mass, weight_with}
 
 -- a group whose leaves may stand for those of another one: the same weights for each sequence of the other player, no
--- more mass, and no other sequences
+-- more mass, no other sequences, and none of them twice
 pub record MayReplace (group leaves : List GroupLeaf) : Type 0 where
   pub weights : (b : ℕ) → weight_with b group ≡ weight_with b leaves
   pub mass : group_mass group ≤ group_mass leaves
   pub within : (others : ℕ) → All (λ e. e.other < others) leaves → All (λ e. e.other < others) group
+  pub once : HaveOwnSequences group
 
 -- groups one behind the other, of leaves that have sequences of the other player, who has so many; the sizes of each
 -- group's weights together are within 63 bits
@@ -23,6 +24,11 @@ pub record CanMerge (starts : List ℕ) (entries : List GroupLeaf) (others : ℕ
 -- there is room for a leaf with any sequence and a weight of at most this size
 abbrev pub HasRoomUpTo : (GroupLeaf → Type 0) → ℕ → Type 0
 HasRoomUpTo HasRoom mass = (e : GroupLeaf) → unsigned_abs e.weight ≤ mass → HasRoom e
+
+-- the places tell of each entry from one on where that of its sequence is
+abbrev pub TellPlaces : ℕ → List ℕ → List GroupLeaf → Type 0
+TellPlaces begin places entries = (i : ℕ) → begin ≤ i → i < length entries
+    → slice_index places (slice_index (map (λ e. e.other) entries) i) ≡ i
 
 -- a leaf more in the group from a place on
 pub record TakesLeaf (begin : ℕ) (e : GroupLeaf) (old new : List GroupLeaf) : Type 0 where

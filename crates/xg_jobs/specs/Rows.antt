@@ -1,9 +1,11 @@
 -- The amounts at the rows of a form, and what is asked of the numbers that they are made from.
-use Rattle.std.specs.Prelude.{◌≡◌, ℕ, ◌≤◌, List, ◌++◌, ℤ, length, All}
+use Rattle.std.specs.Prelude.{◌≡◌, ℕ, ◌*◌, ◌^◌, ◌<◌, ◌≤◌, max, List, ◌++◌, ℤ, length, All}
 use Rattle.def_tree.specs.declared.Player.TheVariants.{One, Two}
 use Rattle.def_sums.specs.Limits.{most_root}
 use Rattle.def_plan.specs.Form.{SequenceForm, sequence_count}
 use Rattle.def_plan.specs.FormRows.{player_rows}
+use Rattle.def_plan.specs.Payoff.{mass_of}
+use Rattle.xg_jobs.specs.Groups.{greatest_of}
 
 -- each player's amounts, by sequence
 pub record Amounts : Type 0 where
@@ -25,3 +27,9 @@ pub record AreNumbersOf (form : SequenceForm) (numbers_one numbers_two : List �
 pub record ArePlainSums (form : SequenceForm) (numbers_one numbers_two : List ℕ) (amounts : Amounts) : Type 0 where
   pub one : amounts.one ≡ player_rows form One numbers_two
   pub two : amounts.two ≡ player_rows form Two numbers_one
+
+-- the sizes of all weights together, times the greatest number of both players, are within 64 bits with a sign, and so is
+-- each sum
+abbrev pub HaveSmallRows : SequenceForm → List ℕ → List ℕ → Type 0
+HaveSmallRows form numbers_one numbers_two =
+    mass_of form.leaves * max (greatest_of numbers_one) (greatest_of numbers_two) < 2 ^ 63

@@ -39,7 +39,7 @@ pub(crate) struct LeafGroups {
 }
 
 impl Model for LeafGroups {
-    ghost use Rattle.xg_jobs.specs.Entries.{AreSmallest, KeepsGroups, leaves_of_group};
+    ghost use Rattle.xg_jobs.specs.Entries.{AreMergedGroups, AreSmallest, KeepsGroups, leaves_of_group};
     ghost use Rattle.xg_jobs.specs.Grouping.{GroupedWeights, weights_in};
 
     ghost Value = { GroupedWeights };
@@ -50,7 +50,7 @@ impl Model for LeafGroups {
     } };
 
     ghost invariant = { λ g. KeepsGroups g.starts.items (leaves_of_group g.entries) g.others g.mass
-        × AreSmallest g.entries };
+        × AreSmallest g.entries × AreMergedGroups g.starts.items (leaves_of_group g.entries) };
 }
 
 impl LeafGroups {

@@ -1,8 +1,8 @@
 //! Makers of rows.
-ghost use Rattle.std.specs.Prelude.{◌≡◌, Bool, IfOk, IsTrue, length};
+ghost use Rattle.std.specs.Prelude.{◌≡◌, ◌↔◌, Bool, IfOk, IsTrue, length};
 ghost use Rattle.std.specs.Thread.{IsSync};
 ghost use Rattle.def_plan.specs.Form.{sequence_count};
-ghost use Rattle.xg_jobs.specs.Rows.{AreNumbersOf, ArePlainSums};
+ghost use Rattle.xg_jobs.specs.Rows.{AreNumbersOf, ArePlainSums, HaveSmallRows};
 ghost use Rattle.xg_jobs.specs.Table.{HasLeavesOf, Serves};
 
 use crate::input::RowInput;
@@ -20,6 +20,9 @@ pub trait RowMaker {
 
     /// Whether it makes packets of jobs.
     ghost by_packets: { Self → Bool };
+
+    /// Whether it makes rows of 64 bits.
+    ghost makes_small: { Self → Bool };
 
     /// Whether packets of jobs are made, for which a table has to have the rows of each job.
     fn makes_packets(&self) -> bool
@@ -39,17 +42,16 @@ pub trait RowMaker {
         requires table { Serves (by_packets self.now) input.now.form.now jobs.now }
         ensures { IfOk result (λ rows. ArePlainSums input.now.form.now input.now.one.now input.now.two.now rows) };
 
-    /// Writes the same sums into rows of 64 bits. A maker that doesn't, or doesn't know that each sum has room in them,
-    /// answers false, and what is written then means nothing. Takes no memory.
+    /// Writes the same sums into rows of 64 bits, if the maker makes such rows and it is known that each sum has room in
+    /// them; else what is written means nothing. Takes no memory.
     fn small_rows(&self, input: &RowInput<'_>, jobs: &JobTable, rows: &mut SmallRows) -> bool
         requires numbers { AreNumbersOf input.now.form.now input.now.one.now input.now.two.now }
         requires table { HasLeavesOf input.now.form.now jobs.now }
         requires rows_one { length rows.old.one ≡ sequence_count input.now.form.now.sets_one }
         requires rows_two { length rows.old.two ≡ sequence_count input.now.form.now.sets_two }
+        ensures small { IsTrue result ↔ (IsTrue (makes_small self.now)
+            × HaveSmallRows input.now.form.now input.now.one.now input.now.two.now) }
         ensures sums { IsTrue result → ArePlainSums input.now.form.now input.now.one.now input.now.two.now rows.new }
         ensures count_one { length rows.new.one ≡ length rows.old.one }
-        ensures count_two { length rows.new.two ≡ length rows.old.two }
-    {
-        false
-    }
+        ensures count_two { length rows.new.two ≡ length rows.old.two };
 }

@@ -1,7 +1,7 @@
 //! Leaves of a group that differ in nothing but their weights, as one entry.
 ghost use Rattle.std.specs.Prelude.{◌+◌, ◌-◌, ◌^◌, ◌<◌, ◌≤◌, All, IfOk, OnOk, drop, length, map, unsigned_abs};
 ghost use Rattle.xg_jobs.specs.Groups.{group_mass, groups_mass};
-ghost use Rattle.xg_jobs.specs.Merging.{AreMerged, CanMerge, HasRoomUpTo, TakesGroup, TakesLeaf};
+ghost use Rattle.xg_jobs.specs.Merging.{AreMerged, CanMerge, HasRoomUpTo, TakesGroup, TakesLeaf, TellPlaces};
 
 use crate::entry::GroupEntry;
 use std::alloc::{AllocError, Global};
@@ -66,12 +66,14 @@ fn merge_leaf<E: GroupEntry>(
     entries: &mut Vec<E>,
 ) -> Result<(), AllocError>
     requires begin { begin ≤ length entries.old.items }
+    requires told { TellPlaces begin places.old (map E.leaf entries.old.items) }
     requires within { (E.leaf e).other < length places.old }
     requires light { group_mass (drop begin (map E.leaf entries.old.items)) + unsigned_abs (E.leaf e).weight < 2 ^ 63 }
     requires room { HasRoomUpTo E.has_room
         (group_mass (drop begin (map E.leaf entries.old.items)) + unsigned_abs (E.leaf e).weight) }
-    ensures { OnOk result (TakesLeaf begin (E.leaf e)
+    ensures takes { OnOk result (TakesLeaf begin (E.leaf e)
         (map E.leaf entries.old.items) (map E.leaf entries.new.items)) }
+    ensures told { OnOk result (TellPlaces begin places.new (map E.leaf entries.new.items)) }
 {
     let other = e.other();
     let place = places[other as usize];

@@ -1,8 +1,8 @@
 //! Rows by one loop, without workers.
-ghost use Rattle.std.specs.Prelude.{◌≡◌, ◌↔◌, ◌*◌, ◌^◌, ◌<◌, max, IsTrue, length};
+ghost use Rattle.std.specs.Prelude.{◌≡◌, ◌↔◌, ◌*◌, ◌^◌, ◌<◌, max, true, IsTrue, length};
 ghost use Rattle.def_plan.specs.Form.{sequence_count};
 ghost use Rattle.xg_jobs.specs.Groups.{greatest_of};
-ghost use Rattle.xg_jobs.specs.Rows.{AreNumbersOf, ArePlainSums};
+ghost use Rattle.xg_jobs.specs.Rows.{AreNumbersOf, ArePlainSums, HaveSmallRows};
 ghost use Rattle.xg_jobs.specs.Table.{HasLeavesOf};
 
 use crate::input::RowInput;
@@ -18,11 +18,13 @@ use std::thread::Threads;
 pub struct PlainRows;
 
 impl RowMaker for PlainRows {
-    ghost use Rattle.std.specs.Prelude.{false};
+    ghost use Rattle.std.specs.Prelude.{false, true};
 
     ghost can_make = { λ _. Unit {0} };
 
     ghost by_packets = { λ _. false };
+
+    ghost makes_small = { λ _. true };
 
     fn makes_packets(&self) -> bool {
         false
@@ -50,6 +52,7 @@ impl RowMaker for PlainRows {
         requires table { HasLeavesOf input.now.form.now jobs.now }
         requires rows_one { length rows.old.one ≡ sequence_count input.now.form.now.sets_one }
         requires rows_two { length rows.old.two ≡ sequence_count input.now.form.now.sets_two }
+        ensures small { IsTrue result ↔ (IsTrue true × HaveSmallRows input.now.form.now input.now.one.now input.now.two.now) }
         ensures fits { let most = max (greatest_of input.now.one.now) (greatest_of input.now.two.now) in
             IsTrue result ↔ jobs.now.mass * most < 2 ^ 63 }
         ensures sums { IsTrue result → ArePlainSums input.now.form.now input.now.one.now input.now.two.now rows.new }

@@ -10,6 +10,7 @@ ghost use Rattle.def_tree.specs.Opponent.{opponent};
 ghost use Rattle.def_plan.specs.Form.{player_sets, sequence_count};
 ghost use Rattle.def_plan.specs.FormRows.{player_rows, row_count};
 ghost use Rattle.xg_jobs.specs.Rows.{AreNumbersOf, ArePlainSums};
+ghost use Rattle.xg_rowcore.specs.Chains.{usual_stripes};
 ghost use Rattle.xg_touched.specs.Touched.{job_rows};
 ghost use Rattle.xg_jobs.specs.Groups.{greatest_of};
 ghost use Rattle.xg_jobs.specs.Table.{HasLeavesOf, IsFormOf, IsTableOf, job_table, leaf_table, most_touched};
@@ -153,6 +154,7 @@ impl JobTable {
         ensures packet { let amount = leaf_amount input.now.form.now input.now.one.now input.now.two.now in
             IsPacketOf (amounts amount self.now.ranges) (row_count input.now.form.now) job into.new.entries.list }
         ensures room { into.new.entries.room ≡ into.old.entries.room }
+        ensures chained { into.new.entries.chained ≡ usual_stripes }
     {
         let touched = &self.touched[job as usize];
         touched.packet_into(job, input.form, input.one, input.two, into);

@@ -7,7 +7,7 @@ use Rattle.xg_jobs.specs.Grouping.{ArePlaced, entry_of}
 use Rattle.xg_jobs.specs.Merging.{AreMerged, CanMerge, HasRoomUpTo}
 use Rattle.xg_jobs.proofs.Building.{groups_built, groups_kept, groups_light}
 use Rattle.xg_jobs.proofs.Counting.{mass_at}
-use Rattle.xg_jobs.proofs.OneEntry.{can_merge, merged_kept, merged_weights}
+use Rattle.xg_jobs.proofs.OneEntry.{can_merge, merged_kept, merged_once, merged_weights}
 use Rattle.xg_jobs.proofs.groups.grouped.Goals as goal
 
 pub entries_of-requires-clause-none : goal.entries_of-requires-clause-none
@@ -59,4 +59,5 @@ returns g c =
     record {
       keeps = merged_kept starts entries st raw _ _ are (groups_kept form One st raw _ _ c.in_ok-starts.ensures placed facts.sequences refl refl facts.mass);
       weights = merged_weights starts entries st raw _ are ∙ groups_built form One st raw _ c.in_ok-starts.ensures placed refl;
+      merged = merged_once starts entries st raw are;
     }) c.merged.ensures

@@ -1,6 +1,6 @@
 use Rattle.std.proofs.Common.{List, map, ap, subst, sym, ◌∙◌}
 use Rattle.def_plan.specs.Form.{sequence_count}
-use Rattle.xg_jobs.specs.Entries.{KeepsGroups}
+use Rattle.xg_jobs.specs.Entries.{AreMergedGroups, KeepsGroups}
 use Rattle.xg_jobs.specs.Groups.{GroupLeaf}
 use Rattle.xg_jobs.specs.Grouping.{weights_in}
 use Rattle.xg_jobs.specs.Merging.{HasRoomUpTo}
@@ -17,7 +17,7 @@ invariant_of-result g c =
     let keeps =
     subst (λ es. KeepsGroups starts es c.sequence_count.result c.args.mass) (sym c.in_ok-pack.ensures.leaves)
     (subst (λ n. KeepsGroups starts entries n c.args.mass) (sym c.sequence_count.ensures.count) (subst (KeepsGroups starts entries (sequence_count c.args.form.now.sets_two)) (sym c.requires.mass) kept)) in
-    (keeps, c.in_ok-pack.ensures.smallest)
+    (keeps, c.in_ok-pack.ensures.smallest, subst (AreMergedGroups starts) (sym c.in_ok-pack.ensures.leaves) c.in_ok-groups.ensures.merged)
 
 pub returns-clause-weights : goal.returns-clause-weights
 returns-clause-weights g c =
