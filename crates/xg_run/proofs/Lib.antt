@@ -6,6 +6,5 @@ pub mod Texts
 pub mod SettingsWithinLimits
 pub mod Checking
 pub mod MadeEnds
-pub mod Loaded
 pub mod BatchEntries
 pub mod BatchTexts

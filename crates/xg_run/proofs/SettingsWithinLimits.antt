@@ -9,7 +9,7 @@ use Rattle.def_command.specs.GrammarLaws.{InRange}
 use Rattle.def_command.proofs.InRange.{settings_in_range}
 use Rattle.xg_engine.specs.declared.settings.Settings.{Settings as RunSettings}
 use Rattle.xg_engine.specs.State.{AreWithinLimits, AreWithinLimitsOf}
-use Rattle.xg_run.specs.Settings.{settings_seen}
+use Rattle.xg_load.specs.Settings.{settings_seen}
 
 -- settings in their ranges, as the engine has them
 within : (settings : Settings) (workers : Option ℕ) (asked : RunSettings) → InRange settings workers

@@ -13,11 +13,11 @@ use Rattle.def_program.specs.Program.{game_answer, refusal, success}
 use Rattle.def_program.specs.Meaning.{FileMeans, MeansOnly}
 use Rattle.def_program.specs.Lines.{of_file}
 use Rattle.def_program.proofs.Meant.{file_computed}
-use Rattle.xg_run.specs.declared.load.LoadFault.{LoadFault}
-use Rattle.xg_run.specs.declared.load.LoadFault.TheVariants as faults
+use Rattle.xg_load.specs.declared.loading.LoadFault.{LoadFault}
+use Rattle.xg_load.specs.declared.loading.LoadFault.TheVariants as faults
 use Rattle.xg_run.specs.declared.ending.Ending.{Ending}
 use Rattle.xg_run.specs.declared.ending.Ending.TheVariants.{Done, Refused, Usage, ReadFault, WriteFault, NoMemory}
-use Rattle.xg_run.specs.Loads.{Loads, LoadHasCause}
+use Rattle.xg_load.specs.Loads.{Loads, LoadHasCause}
 use Rattle.xg_run.specs.Refusal.{IsRefusal, IsUnloaded}
 use Rattle.def_outside.specs.Cause.{HasCause}
 use Rattle.xg_run.specs.Written.{IsEndingOf}

@@ -2,14 +2,9 @@
 use Rattle.std.proofs.Common.{◌≡◌, ℕ, ◌+◌, ◌<◌, ◌≤◌, Bool, true, false, cond, List, [], ◌∷◌, ◌++◌, length, get_or, take, None, Some, refl, sym, ap, ◌∙◌, append_assoc}
 use Rattle.std.specs.Prelude.{nat_eq}
 use Rattle.std.proofs.lemmas.List.{take_all, take_more}
-use Rattle.def_tree.specs.Tree.{node_count}
 use Rattle.def_file_tokens.specs.Texts.{escaped}
 use Rattle.def_file.specs.Content.{GameFile}
-use Rattle.def_game_scale.specs.Tables.{game_sum}
-use Rattle.def_game_scale.specs.Scale.{game_unit}
-use Rattle.def_game_numbers.specs.Numbers.{tables_of}
-use Rattle.def_plan.specs.Form.{SequenceForm, sequence_count}
-use Rattle.def_sequence_form.proofs.Leaves.{form_has_the_mass}
+use Rattle.def_plan.specs.Form.{SequenceForm}
 use Rattle.def_reply.specs.Offers.{board_after}
 use Rattle.def_reply.specs.Outcome.{Head, Outcome}
 use Rattle.def_run.specs.Run.{offers_in, outcome_with}
@@ -19,10 +14,10 @@ use Rattle.def_cert_accepted.specs.OfOutcome.{certificate_of}
 use Rattle.def_cert_versions.specs.Verdict.{in_version_two}
 use Rattle.def_command.specs.Grammar.{Settings}
 use Rattle.def_program.specs.Text.{form_of_file, game_head, between_marks, played_text, text_of_variant}
-use Rattle.def_program.proofs.Played.{leaves_are}
 use Rattle.xg_engine.specs.State.{head_with}
 use Rattle.xg_engine.specs.declared.settings.Settings.{Settings as RunSettings}
-use Rattle.xg_run.specs.Settings.{settings_seen}
+use Rattle.xg_load.specs.Settings.{settings_seen}
+use Rattle.xg_load.proofs.Heads.{run_head_is}
 use Rattle.def_game_numbers.specs.Weighed.{weighed_game}
 
 -- what is escaped piece by piece is escaped whole
@@ -53,24 +48,6 @@ pub quoted_whole : (text : List ℕ) (i : ℕ) (front items new : List ℕ) → 
 quoted_whole text i front items new all is more =
     more ∙ ap (λ (xs : List ℕ). xs ++ 34 ∷ []) is ∙ append_assoc front (34 ∷ escaped (take i text)) (34 ∷ [])
     ∙ ap (λ (xs : List ℕ). front ++ 34 ∷ (escaped xs ++ 34 ∷ [])) (take_all i text all)
-
--- the head of a run is the game's head
-pub run_head_is : (game : GameFile) (settings : RunSettings)
-    → head_with (weighed_game game) settings ≡ game_head game (settings_seen settings)
-run_head_is game settings = λ i. record {
-  nodes = node_count game.tree;
-  leaves = leaves_are game i;
-  sets_one = length (form_of_file game).sets_one;
-  sets_two = length (form_of_file game).sets_two;
-  sequences_one = sequence_count (form_of_file game).sets_one;
-  sequences_two = sequence_count (form_of_file game).sets_two;
-  unit = game_unit (tables_of game) game.tree;
-  sum = game_sum (tables_of game) game.tree;
-  mass = form_has_the_mass.of_game (tables_of game) game.tree i;
-  rounds = settings.rounds;
-  every = settings.every;
-  scale = settings.scale;
-}
 
 -- the text of an outcome of a variant of rounds
 abbrev pub outcome_text : Variant → SequenceForm → Outcome → List ℕ

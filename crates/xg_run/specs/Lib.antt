@@ -1,9 +1,6 @@
-pub mod Accepted
 pub mod BothRead
 pub mod ChecksEnd
 pub mod RefusalLine
-pub mod Settings
-pub mod Loads
 pub mod Endings
 pub mod Concludes
 pub mod Refusal

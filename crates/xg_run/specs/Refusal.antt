@@ -2,8 +2,8 @@
 use Rattle.std.specs.Prelude.{◌≡◌, ℕ, List, string_bytes}
 use Rattle.def_file.specs.declared.FileFault.{FileFault}
 use Rattle.def_program.specs.TextLines.{fault_line}
-use Rattle.xg_run.specs.declared.load.LoadFault.{LoadFault}
-use Rattle.xg_run.specs.declared.load.LoadFault.TheVariants as faults
+use Rattle.xg_load.specs.declared.loading.LoadFault.{LoadFault}
+use Rattle.xg_load.specs.declared.loading.LoadFault.TheVariants as faults
 use Rattle.xg_run.specs.declared.ending.Ending.{Ending}
 use Rattle.xg_run.specs.declared.ending.Ending.TheVariants.{Done, Refused, Usage, ReadFault, WriteFault, NoMemory}
 

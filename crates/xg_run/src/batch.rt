@@ -13,7 +13,7 @@ ghost use Rattle.xg_batch.specs.Items.{HasAtMost, batch_entry_seen};
 ghost use Rattle.xg_run.specs.Batches.{BatchHasCause, CanBeShown, HaveContents, items_shown};
 ghost use Rattle.xg_run.specs.Concludes.{Concludes, Tells};
 ghost use Rattle.xg_run.specs.Endings.{status_of};
-ghost use Rattle.xg_run.specs.Settings.{settings_seen};
+ghost use Rattle.xg_load.specs.Settings.{settings_seen};
 
 use crate::batch_text::{BatchText, parts_of};
 use crate::ending::Ending;

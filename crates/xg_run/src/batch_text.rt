@@ -9,12 +9,12 @@ ghost use Rattle.std.specs.Fmt.{decimal};
 ghost use Rattle.xg_run.specs.Batches.{CanBeShown, CanWritePart, HasOutcome, IsTextPart, IsTextOfEngine, part_bytes, parts_bytes};
 
 use crate::certificate::PlayedText;
-use crate::text::fault_line;
 use itoa::Buffer;
 use std::alloc::{AllocError, Global};
 use xg_batch::Item;
 use xg_engine::{Engine, Variant};
 use xg_io::{Sink, Writable, WriteFault, write_all};
+use xg_load::fault_line;
 
 /// What is written of a file.
 #[derive(Drop)]

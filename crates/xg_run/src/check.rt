@@ -23,11 +23,11 @@ use crate::certificate::UpgradedText;
 use crate::check_lines::check_fault_line;
 use crate::ending::Ending;
 use crate::playing::ending_of;
-use crate::text::fault_line;
 use std::alloc::{AllocError, Global};
 use xg_check::{Accepted, Verdict, accept};
 use xg_frac::{Ratio, put_ratio};
 use xg_io::{Files, Sink, WriteFault, write_all, write_paged};
+use xg_load::fault_line;
 use xg_read::FileFault;
 
 /// What is written of a certificate that is accepted.

@@ -3,9 +3,9 @@ ghost use Rattle.std.specs.Prelude.{◌≡◌, IfOk, string_bytes};
 ghost use Rattle.def_program.specs.CheckLines.{cert_fault_line, end_name, player_number};
 ghost use Rattle.xg_run.specs.RefusalLine.{IsCheckLine};
 
-use crate::text::fault_line;
 use std::alloc::{AllocError, Global};
 use xg_check::{CertFault, CheckFault, Which};
+use xg_load::fault_line;
 use xg_plan::Player;
 
 /// The line of a check's fault; want of memory has none.

@@ -1,7 +1,6 @@
 //! All that the program does, from its words to its exit status.
 #![tactic(auto)]
 
-mod accepted;
 mod batch;
 mod batch_text;
 mod both;
@@ -11,7 +10,6 @@ mod check_lines;
 mod ending;
 mod engine;
 mod given;
-mod load;
 mod made;
 mod playing;
 mod program;

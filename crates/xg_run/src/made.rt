@@ -8,9 +8,8 @@ ghost use Rattle.def_program.specs.Program.{solved};
 ghost use Rattle.def_plus.specs.declared.Variant.TheVariants.{Plain};
 ghost use Rattle.xg_engine.specs.State.{AreWithinLimitsOf};
 ghost use Rattle.xg_run.specs.Concludes.{EndsMade, Tells};
-ghost use Rattle.xg_run.specs.Settings.{settings_seen};
+ghost use Rattle.xg_load.specs.Settings.{settings_seen};
 
-use crate::accepted::AcceptedGame;
 use crate::certificate::GameText;
 use crate::ending::Ending;
 use crate::playing::{ending_of, play};
@@ -24,6 +23,7 @@ use xg_engine::{Settings, Variant};
 use xg_game::Refused;
 use xg_gen::one_card_poker;
 use xg_io::{Gate, Sink, write_paged};
+use xg_load::AcceptedGame;
 
 /// Writes one-card poker as a file.
 pub fn generate<O: Sink>(alloc: Global, cards: u32, out: &mut O) -> Ending

@@ -11,11 +11,10 @@ ghost use Rattle.xg_jobs.specs.Rows.{AreNumbersOf, ArePlainSums};
 ghost use Rattle.xg_jobs.specs.Table.{IsTableOf};
 ghost use Rattle.xg_run.specs.Concludes.{Tells};
 ghost use Rattle.xg_run.specs.Engines.{state_of, variant_of};
-ghost use Rattle.xg_run.specs.Settings.{settings_seen};
+ghost use Rattle.xg_load.specs.Settings.{settings_seen};
 ghost use Rattle.xg_cert.specs.Writable.{IsOutcomeOf};
 ghost use Rattle.xg_run.specs.Written.{IsEndingOf};
 
-use crate::accepted::AcceptedGame;
 use crate::certificate::PlayedText;
 use crate::ending::Ending;
 use crate::engine::VariantEngine;
@@ -29,6 +28,7 @@ use xg_cert::Outcome;
 use xg_engine::{Settings, Variant};
 use xg_io::{Gate, Sink, WriteFault, write_paged};
 use xg_jobs::{JobTable, PlainRows, RowInput, Rows};
+use xg_load::AcceptedGame;
 
 /// Plays the rounds that are asked, and writes the text of what they leave.
 pub fn play<Rt: Threads + Wait + Sync, O: Sink, G: Gate>(

@@ -7,7 +7,7 @@ ghost use Rattle.def_program.specs.Program.{played};
 ghost use Rattle.def_program.specs.Text.{info_text};
 ghost use Rattle.xg_command.specs.Values.{settings_value};
 ghost use Rattle.xg_engine.specs.State.{AreWithinLimitsOf};
-ghost use Rattle.xg_run.specs.Settings.{settings_seen};
+ghost use Rattle.xg_load.specs.Settings.{settings_seen};
 ghost use Rattle.def_program.specs.Bounds.{BoundsHold, ForEachPlayed};
 ghost use Rattle.def_program.specs.Checked.{ForEachChecked};
 ghost use Rattle.def_program.specs.Lines.{IsCheck, SaysLine};
@@ -17,15 +17,13 @@ ghost use Rattle.xg_run.specs.Endings.{status_of};
 ghost use Rattle.xg_run.specs.MayOpen.{MayOpen};
 ghost use Rattle.xg_run.specs.Refusal.{IsRefusal, IsUnloaded};
 
-use crate::accepted::AcceptedGame;
 use crate::batch::batch;
 use crate::check::{check, upgrade};
 use crate::ending::Ending;
-use crate::load::{LoadFault, load};
 use crate::made::{drill, generate};
 use crate::playing::{ending_of, play};
 use crate::rows::SharedRows;
-use crate::text::{fault_line, info_front, write_info};
+use crate::text::{info_front, write_info};
 use def_sums::MOST_SCALE;
 use std::alloc::Global;
 use std::marker::Sync;
@@ -34,6 +32,7 @@ use std::thread::Threads;
 use xg_command::{Command, WordSettings, Words};
 use xg_engine::{Settings, Variant};
 use xg_io::{Files, Gate, Sink};
+use xg_load::{AcceptedGame, LoadFault, fault_line, load};
 use xg_read::FileFault;
 
 /// How many files of a batch are solved at once where no number of workers is given.

@@ -5,7 +5,7 @@ use Rattle.def_program.specs.BatchText.{parts_text}
 use Rattle.xg_batch.specs.Items.{batch_entry_seen}
 use Rattle.xg_batch.specs.declared.entry.Entry.{Entry}
 use Rattle.xg_run.specs.Concludes.{Tells}
-use Rattle.xg_run.specs.Settings.{settings_seen}
+use Rattle.xg_load.specs.Settings.{settings_seen}
 use Rattle.xg_run.proofs.BatchEntries.{ended}
 use Rattle.xg_run.proofs.batch.batch.Goals as goal
 

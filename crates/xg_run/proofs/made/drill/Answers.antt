@@ -4,9 +4,9 @@ use Rattle.def_file.specs.declared.FileFault.{FileFault}
 use Rattle.def_canon.specs.Poker.{poker}
 use Rattle.def_program.specs.Program.{solved}
 use Rattle.xg_game.specs.declared.fault.Refused.{Refused}
-use Rattle.xg_run.specs.Accepted.{Opens}
+use Rattle.xg_load.specs.Accepted.{Opens}
 use Rattle.xg_run.specs.Refusal.{IsRefusal}
-use Rattle.xg_run.specs.Settings.{settings_seen}
+use Rattle.xg_load.specs.Settings.{settings_seen}
 use Rattle.xg_run.proofs.MadeEnds.{made_refuses, made_tells}
 use Rattle.xg_run.proofs.made.drill.Goals as goal
 

@@ -6,7 +6,7 @@ use Rattle.def_program.specs.Text.{form_of_file, played_text}
 use Rattle.def_game_numbers.specs.Weighed.{weighed_game}
 use Rattle.xg_engine.specs.State.{head_with}
 use Rattle.xg_run.specs.Engines.{state_of, variant_of}
-use Rattle.xg_run.specs.Settings.{settings_seen}
+use Rattle.xg_load.specs.Settings.{settings_seen}
 use Rattle.xg_run.proofs.Solved.{tells, writes_of}
 use Rattle.xg_run.proofs.Texts.{outcome_text, played_is, same_outcome}
 use Rattle.xg_run.proofs.playing.play_by.Goals as goal

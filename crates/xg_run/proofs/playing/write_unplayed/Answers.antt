@@ -9,7 +9,7 @@ use Rattle.def_game_numbers.specs.WholeSums.{HasWholeSum, IsWholeIn}
 use Rattle.def_program.specs.Text.{form_of_file, played_text}
 use Rattle.xg_cert.specs.Outcome.{head_of}
 use Rattle.xg_cert.specs.Writable.{IsOutcomeOf}
-use Rattle.xg_run.specs.Settings.{settings_seen}
+use Rattle.xg_load.specs.Settings.{settings_seen}
 use Rattle.xg_run.proofs.Solved.{tells, writes_of}
 use Rattle.xg_run.proofs.Texts.{outcome_text, unplayed_is}
 use Rattle.xg_run.proofs.playing.write_unplayed.Goals as goal

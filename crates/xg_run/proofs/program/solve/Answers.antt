@@ -1,7 +1,7 @@
 use Rattle.std.proofs.Common.{Err, refl, ap}
 use Rattle.xg_io.specs.Calls.{files_call, sink_call}
 use Rattle.def_program.specs.Program.{played}
-use Rattle.xg_run.specs.Settings.{settings_seen}
+use Rattle.xg_load.specs.Settings.{settings_seen}
 use Rattle.xg_run.proofs.Solved.{ended, turned_down}
 use Rattle.xg_run.proofs.program.solve.Goals as goal
 

@@ -2,8 +2,8 @@
 ghost use Rattle.std.specs.Prelude.{◌≡◌, IfOk, None};
 ghost use Rattle.def_program.specs.Text.{game_head};
 ghost use Rattle.xg_cert.specs.Outcome.{head_of};
-ghost use Rattle.xg_run.specs.Accepted.{Opens};
-ghost use Rattle.xg_run.specs.Settings.{settings_seen};
+ghost use Rattle.xg_load.specs.Accepted.{Opens};
+ghost use Rattle.xg_load.specs.Settings.{settings_seen};
 ghost use Rattle.def_game_numbers.specs.Weighed.{weighed_game};
 
 use std::alloc::{AllocError, Global};

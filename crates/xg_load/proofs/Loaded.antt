@@ -3,9 +3,9 @@ use Rattle.std.proofs.Common.{◌≡◌, ℕ, List, Option, Some, None, Ok, Err,
 use Rattle.std.specs.Prelude.{Result}
 use Rattle.def_file.specs.Content.{GameFile}
 use Rattle.def_check.specs.Accepting.{accepted}
-use Rattle.xg_run.specs.declared.load.LoadFault.{LoadFault}
-use Rattle.xg_run.specs.declared.load.LoadFault.TheVariants.{ReadFault, Refused, NoMemory}
-use Rattle.xg_run.specs.Loads.{AcceptsOrRefuses, Loads, LoadsGame}
+use Rattle.xg_load.specs.declared.loading.LoadFault.{LoadFault}
+use Rattle.xg_load.specs.declared.loading.LoadFault.TheVariants.{ReadFault, Refused, NoMemory}
+use Rattle.xg_load.specs.Loads.{AcceptsOrRefuses, Loads, LoadsGame}
 
 -- a game that was read is loaded, or refused, as it is accepted or refused
 pub accepted_is_loaded : (told : Option (List ℕ)) (game : GameFile) (result : Result GameFile LoadFault)

@@ -2,7 +2,7 @@
 ghost use Rattle.std.specs.Prelude.{◌≡◌, ◌≢◌, ◌<◌, ◌≤◌, length, IsTrue, IsErrOf};
 ghost use Rattle.def_outside.specs.Cause.{next_count};
 ghost use Rattle.def_file.specs.Reading.{game_at, most_bytes};
-ghost use Rattle.xg_run.specs.Loads.{AcceptsOrRefuses, LoadHasCause, Loads, LoadsGame, ReadsGame};
+ghost use Rattle.xg_load.specs.Loads.{AcceptsOrRefuses, LoadHasCause, Loads, LoadsGame, ReadsGame};
 
 use crate::accepted::AcceptedGame;
 use std::alloc::Global;

@@ -5,8 +5,8 @@ use Rattle.def_file.specs.declared.FileFault.{FileFault}
 use Rattle.def_file.specs.Content.{GameFile}
 use Rattle.def_game_numbers.specs.Numbers.{game_file_fault}
 use Rattle.def_check.specs.Accepting.{read_as_accepted, read_as_game, unless_faulty}
-use Rattle.xg_run.specs.declared.load.LoadFault.{LoadFault}
-use Rattle.xg_run.specs.declared.load.LoadFault.TheVariants.{ReadFault, Refused, NoMemory}
+use Rattle.xg_load.specs.declared.loading.LoadFault.{LoadFault}
+use Rattle.xg_load.specs.declared.loading.LoadFault.TheVariants.{ReadFault, Refused, NoMemory}
 
 -- loading by a way to read the bytes
 abbrev pub LoadsBy : (List ℕ → Result GameFile FileFault) → Option (List ℕ) → Result GameFile LoadFault → Type 0

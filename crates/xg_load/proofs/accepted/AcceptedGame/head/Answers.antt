@@ -3,9 +3,9 @@ use Rattle.def_file.specs.Content.{GameFile}
 use Rattle.def_plan.specs.Weighed.{WeighedGame}
 use Rattle.def_program.specs.Text.{game_head}
 use Rattle.xg_engine.specs.State.{head_with}
-use Rattle.xg_run.specs.Settings.{settings_seen}
-use Rattle.xg_run.proofs.Texts.{run_head_is}
-use Rattle.xg_run.proofs.accepted.AcceptedGame.head.Goals as goal
+use Rattle.xg_load.specs.Settings.{settings_seen}
+use Rattle.xg_load.proofs.Heads.{run_head_is}
+use Rattle.xg_load.proofs.accepted.AcceptedGame.head.Goals as goal
 
 pub returns : goal.returns
 returns c =
