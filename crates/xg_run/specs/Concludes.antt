@@ -1,11 +1,8 @@
 -- What holds of a command that ends so, whatever the command is. `checks` says whether it checks a certificate, `meant`
 -- which answers are meant by what the files tell.
-use Rattle.std.specs.Prelude.{◌≡◌, List, ℕ, Option, Some, None, IsSomeAnd, string_bytes}
+use Rattle.std.specs.Prelude.{◌≡◌, List, ℕ, Option, IsSomeAnd, string_bytes}
 use Rattle.def_outside.specs.Calls.{FilesCall, SinkCall, HasFailedOnce, HasNoFault, Wrote, WroteFront, IsUntouched}
-use Rattle.def_file.specs.declared.FileFault.{FileFault}
 use Rattle.def_file.specs.Content.{GameFile}
-use Rattle.def_game_numbers.specs.Numbers.{game_file_fault}
-use Rattle.def_program.specs.TextLines.{fault_line}
 use Rattle.def_program.specs.Program.{Answer, success, refusal, usage}
 use Rattle.def_program.specs.Meaning.{FileMeans, MeansOnly}
 use Rattle.def_program.specs.Lines.{IsLine}
@@ -67,23 +64,3 @@ Tells text out NoMemory = IsUntouched out
 Tells text out (Refused line) = ⊥
 Tells text out Usage = ⊥
 Tells text out ReadFault = ⊥
-
--- the end of a run on a game that isn't read from a file: the text of a game without a fault was written or cut off, or
--- the line says the fault
-pub record TellsMade (text : GameFile → List ℕ) (game : GameFile) (out : SinkCall) (ending : Ending) : Type 0 where
-  pub faultless : game_file_fault game ≡ None
-  pub tells : Tells (text game) out ending
-
-pub record RefusesMade (game : GameFile) (out : SinkCall) (line : List ℕ) : Type 0 where
-  pub fault : FileFault
-  pub faulty : game_file_fault game ≡ Some fault
-  pub says : line ≡ fault_line fault
-  pub untouched : IsUntouched out
-
-abbrev pub EndsMade : (GameFile → List ℕ) → GameFile → SinkCall → Ending → Type 0
-EndsMade text game out Done = TellsMade text game out Done
-EndsMade text game out WriteFault = TellsMade text game out WriteFault
-EndsMade text game out (Refused line) = RefusesMade game out (string_bytes line)
-EndsMade text game out NoMemory = IsUntouched out
-EndsMade text game out Usage = ⊥
-EndsMade text game out ReadFault = ⊥

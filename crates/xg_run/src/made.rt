@@ -7,13 +7,12 @@ ghost use Rattle.def_canon.specs.Poker.{poker};
 ghost use Rattle.def_program.specs.Program.{solved};
 ghost use Rattle.def_plus.specs.declared.Variant.TheVariants.{Plain};
 ghost use Rattle.xg_engine.specs.State.{AreWithinLimitsOf};
-ghost use Rattle.xg_run.specs.Concludes.{EndsMade, Tells};
+ghost use Rattle.xg_run.specs.Concludes.{Tells};
 ghost use Rattle.xg_load.specs.Settings.{settings_seen};
 
 use crate::certificate::GameText;
 use crate::ending::Ending;
 use crate::playing::{ending_of, play};
-use crate::program::refused;
 use crate::rows::SharedRows;
 use std::alloc::Global;
 use std::marker::Sync;
@@ -41,7 +40,7 @@ pub fn generate<O: Sink>(alloc: Global, cards: u32, out: &mut O) -> Ending
     }
 }
 
-/// Solves one-card poker.
+/// Solves one-card poker, which has no fault.
 pub fn drill<Rt: Threads + Wait + Sync, O: Sink, G: Gate>(
     rt: &Rt,
     alloc: Global,
@@ -53,14 +52,14 @@ pub fn drill<Rt: Threads + Wait + Sync, O: Sink, G: Gate>(
     requires low { least_cards ≤ cards }
     requires high { cards ≤ most_cards }
     requires limits { AreWithinLimitsOf Plain settings }
-    ensures { EndsMade (solved (settings_seen settings)) (poker cards) (sink_call O.Sink out.old out.new) result }
+    ensures { Tells (solved (settings_seen settings) (poker cards)) (sink_call O.Sink out.old out.new) result }
 {
     let Ok(game) = one_card_poker(alloc, cards) else {
         return Ending::NoMemory;
     };
     match AcceptedGame::open(alloc, game) {
         Ok(accepted) => play(rt, alloc, accepted, Variant::Plain, settings, rows, out),
-        Err(Refused::File(fault)) => refused(alloc, fault),
         Err(Refused::NoMemory) => Ending::NoMemory,
+        Err(Refused::File(_)) => unreachable!(),
     }
 }

@@ -109,7 +109,7 @@ fn unloaded(alloc: Global, fault: LoadFault) -> Ending
 }
 
 /// The end of a run whose file has this first fault.
-pub(crate) fn refused(alloc: Global, fault: FileFault) -> Ending
+fn refused(alloc: Global, fault: FileFault) -> Ending
     ensures { IsRefusal fault result }
 {
     match fault_line(alloc, fault) {

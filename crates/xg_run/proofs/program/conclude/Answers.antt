@@ -12,14 +12,13 @@ use Rattle.def_file.specs.Content.{GameFile}
 use Rattle.def_canon.specs.Canon.{canon}
 use Rattle.def_program.specs.Program.{played, solved}
 use Rattle.def_program.specs.Meaning.{AllMean, FileMeans}
-use Rattle.def_program.proofs.Meant.{made_computed}
 use Rattle.xg_command.specs.declared.command.Command.{Command}
 use Rattle.xg_command.specs.Values.{command_value, rows_value, settings_value}
 use Rattle.def_canon.specs.Poker.{poker}
 use Rattle.xg_command.specs.Plain.{plain_value}
-use Rattle.xg_run.specs.Concludes.{Concludes, EndsMade, FileTold}
+use Rattle.xg_run.specs.Concludes.{Concludes, FileTold, Tells}
 use Rattle.xg_run.specs.MayOpen.{MayOpen}
-use Rattle.xg_run.proofs.MadeEnds.{made_ended}
+use Rattle.xg_run.proofs.MadeEnds.{poker_is_told, text_told}
 use Rattle.xg_run.proofs.SettingsWithinLimits.{asked_within, batch_within, batch_workers_within, drill_within, drill_workers_within, plus_within, plus_workers_within, workers_within}
 use Rattle.xg_run.proofs.WordsMeanTheirCommand.{by_command, of_each_name, opens_named, told_of_names}
 use Rattle.xg_run.proofs.program.conclude.Goals as goal
@@ -100,9 +99,9 @@ returns-in-Some-Drill-clause-concludes g c =
     by_command c.args.words.now (g.F.Files.told c.args.files.now) files out
     (Some (grammar.Drill arm.cards (settings_value arm.settings) (rows_value arm.rows)))
     (sym (sym arm.ensures ∙ ap (λ (command : Command). Some (command_value command)) arm.field-0-is)) c.drill.result
-    (made_ended (FileMeans text (canon (poker arm.cards))) text (poker arm.cards)
-    (made_computed text arm.cards range.some range.few) files out refl c.drill.result
-    (subst (λ (s : grammar.Settings). EndsMade (solved s) (poker arm.cards) out c.drill.result)
+    (text_told (FileMeans text (canon (poker arm.cards))) files out refl (text (poker arm.cards))
+    (poker_is_told arm.cards range.some range.few text) c.drill.result
+    (subst (λ (s : grammar.Settings). Tells (solved s (poker arm.cards)) out c.drill.result)
     c.asked-in-Some-Drill.ensures c.drill.ensures))
 
 pub solve-requires-clause-limits : goal.solve-requires-clause-limits
