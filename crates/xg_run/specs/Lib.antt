@@ -6,5 +6,4 @@ pub mod Concludes
 pub mod Refusal
 pub mod Written
 pub mod Engines
-pub mod MayOpen
 pub mod Batches

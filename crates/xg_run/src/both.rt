@@ -4,7 +4,7 @@ ghost use Rattle.def_outside.specs.Cause.{next_count};
 ghost use Rattle.def_file.specs.Reading.{most_bytes};
 ghost use Rattle.def_check.specs.Check.{most_cert_bytes};
 ghost use Rattle.xg_run.specs.BothRead.{HaveLengthsWithin, BothHaveCause, ReadsBoth};
-ghost use Rattle.xg_run.specs.MayOpen.{IsNotTooLong};
+ghost use Rattle.def_program_opens.specs.MayOpen.{IsNotTooLong};
 
 use std::alloc::Global;
 use xg_check::MOST_CERT_BYTES;

@@ -15,7 +15,7 @@ ghost use Rattle.xg_check.specs.Answers.{verdict_of};
 ghost use Rattle.xg_run.specs.ChecksEnd.{EndsCheck, EndsUnread, report_text};
 ghost use Rattle.xg_run.specs.Concludes.{Concludes};
 ghost use Rattle.xg_run.specs.Endings.{status_of};
-ghost use Rattle.xg_run.specs.MayOpen.{IsNotTooLong};
+ghost use Rattle.def_program_opens.specs.MayOpen.{IsNotTooLong};
 ghost use Rattle.xg_run.specs.Refusal.{IsLineOf};
 
 use crate::both::{BothFault, read_both};

@@ -14,7 +14,7 @@ ghost use Rattle.def_program.specs.Lines.{IsCheck, SaysLine};
 ghost use Rattle.def_program.specs.Meaning.{EachMeant, EndsWith, Means};
 ghost use Rattle.xg_run.specs.Concludes.{Concludes, FileTold, Tells};
 ghost use Rattle.xg_run.specs.Endings.{status_of};
-ghost use Rattle.xg_run.specs.MayOpen.{MayOpen};
+ghost use Rattle.def_program_opens.specs.MayOpen.{MayOpen};
 ghost use Rattle.xg_run.specs.Refusal.{IsRefusal, IsUnloaded};
 
 use crate::batch::batch;

@@ -1,0 +1,2 @@
+pub mod MayOpen
+pub mod Openings
