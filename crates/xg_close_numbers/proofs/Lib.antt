@@ -1,2 +1,3 @@
+pub mod ExactPlaces
 pub mod Products
 pub mod Roundings

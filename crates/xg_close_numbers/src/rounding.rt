@@ -1,14 +1,16 @@
 //! Fractions as decimals that are none below them.
-ghost use Rattle.std.specs.Prelude.{◌≡◌, ◌≤◌, ◌<◌, ◌*◌, ◌^◌};
+ghost use Rattle.std.specs.Prelude.{◌≤◌, ◌<◌, ◌*◌, ◌^◌};
+ghost use Rattle.def_progress.specs.Decimals.{most_places};
 
 /// The most places behind the point.
-const MOST_PLACES: u32 = 18;
+pub(crate) const MOST_PLACES: u32 = 18;
 
-/// A decimal: so many units of the last place, of so many behind the point.
+/// A decimal: so many units of the last place, of so many behind the point, which are at most 18.
 #[derive(Clone, Copy, Debug, PartialEq, Eq)]
 pub struct Rounded {
     pub number: u128,
     pub places: u32,
+    ghost few: { places ≤ most_places },
 }
 
 /// A decimal that isn't below `num/den`, with three digits that count where the places suffice.
