@@ -13,9 +13,16 @@ signal.signal(signal.SIGINT, signal.default_int_handler)
 
 ROOT = pathlib.Path(__file__).resolve().parent.parent
 LAUNCHER = ROOT / "bin" / "xg_solve"
-# The toolchain's gate makes the first, and tools/prove.py both, of which a gate that was cut off leaves the second.
-PLACES = (ROOT / "crates" / "xg_solve" / "out" / "xg_solve", ROOT / "out" / "xg_solve")
-PROGRAM = next((it for it in PLACES if it.exists()), PLACES[0])
+
+
+def built_program(name):
+    """Where a program is. The toolchain's gate makes the first, and tools/prove.py both, of which a gate that was cut off
+    leaves the second."""
+    places = (ROOT / "crates" / name / "out" / name, ROOT / "out" / name)
+    return next((it for it in places if it.exists()), places[0])
+
+
+PROGRAM = built_program("xg_solve")
 
 USAGE = (
     b"usage: xg_solve solve FILE [--rounds N] [--every N] [--scale N] [--workers N] [--atomic N]"
