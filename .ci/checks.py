@@ -36,8 +36,8 @@ ONE_LEAF = game("one_leaf")
 
 
 def text(nodes, leaves, sets=(0, 0), sequences=(1, 1), unit=1, mass=0, total=0):
-    """What is printed for a game with these numbers that is solved in no rounds. Each leaf pays both players together the
-    total."""
+    """What is printed for a game with these numbers that is solved in no rounds. Each leaf pays both players together
+    the total."""
     lines = [
         "XGCERT 2",
         f"nodes {nodes} leaves {leaves}",

@@ -8,6 +8,8 @@ from checks import ROOT
 PAGES = ROOT / "docs" / "definitions"
 # A word that a source takes from definitions, where it isn't a type of the code.
 IMPORT = re.compile(r"^\s*ghost use Rattle\.((?:def|xg)_\w+)\.specs\.(?!declared\.)[\w.]+\.\{([^}]*)\};", re.M)
+# A whole file of definitions that has a name in a source.
+ALIAS = re.compile(r"^\s*ghost use Rattle\.((?:def|xg)_\w+)\.specs\.(?!declared\.)\w+ as (\w+);", re.M)
 CALL = re.compile(r"^```rust\n(.*?)^```$", re.M | re.S)
 CLAUSE = re.compile(r"^\s+(?:requires|ensures)\b.*?(?=^\s+(?:requires|ensures)\b|\Z)", re.M | re.S)
 FENCE = re.compile(r"^```.*?^```$", re.M | re.S)
@@ -23,10 +25,13 @@ Entry = collections.namedtuple("Entry", "page anchor crates text")
 
 
 def imported_words(crate):
-    """What the sources of a crate take from definitions, by the names that its clauses have."""
+    """What the sources of a crate take from definitions, by the names that its clauses have. A file of definitions with a
+    name of its own stands there with a point, and is no word."""
     words = {}
     for source in sorted((ROOT / "crates" / crate / "src").glob("**/*.rt")):
-        for home, names in IMPORT.findall(source.read_text()):
+        text = source.read_text()
+        words.update({f"{alias}.": Word(home, None) for home, alias in ALIAS.findall(text)})
+        for home, names in IMPORT.findall(text):
             for name in names.split(","):
                 own, _, other = name.strip().partition(" as ")
                 words[other or own] = Word(home, own)
@@ -45,8 +50,13 @@ def words_of_clauses(source, words):
     cited = {}
     for clause in clauses_of(source):
         bound = {name for names in re.findall(r"λ ([^.]*)\.", clause) for name in names.split()}
-        names = [it for it in re.findall(r"(?<![.\w])[A-Za-z_]\w*", clause) if it not in bound | arguments]
-        cited.update({it: words[it] for it in names if it in words})
+        for name, member in re.findall(r"(?<![.\w])([A-Za-z_]\w*)(?:\.(\w+))?", clause):
+            if name in bound | arguments:
+                continue
+            if name in words:
+                cited[name] = words[name]
+            elif member and f"{name}." in words:
+                cited[f"{name}.{member}"] = Word(words[f"{name}."].crate, member)
     return cited
 
 
