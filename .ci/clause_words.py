@@ -24,6 +24,11 @@ Word = collections.namedtuple("Word", "crate name")
 Entry = collections.namedtuple("Entry", "page anchor crates text")
 
 
+def anchor_of(heading):
+    """The name by which a heading can be linked to."""
+    return re.sub(r"[^\w -]", "", heading).lower().replace(" ", "-")
+
+
 def imported_words(crate):
     """What the sources of a crate take from definitions, by the names that its clauses have. A file of definitions with a
     name of its own stands there with a point, and is no word."""
