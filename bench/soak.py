@@ -2,9 +2,10 @@
 """Runs the program on games, texts and words that are made from a seed, for a time that is given, and tests what must hold
 of every answer whatever the input was. No other solver is asked.
 
-Usage: python3 bench/soak.py [PROGRAM] [--seconds N] [--seed N]
+Usage: python3 bench/soak.py [PROGRAM] [--close FILE] [--seconds N] [--seed N]
 
-PROGRAM is the built one where nothing else is given, N is 60 seconds, and the seed is 1. Half of the inputs are valid ones;
+PROGRAM is the built one where nothing else is given, FILE is run as `xg_close`, N is 60 seconds, and the seed is 1. Where
+no `xg_close` is there, its cases are left out. Half of the inputs are valid ones;
 the others have a byte, a word or a line that is changed, cut away or there twice. Each case is made from the seed and its
 number alone.
 
@@ -13,8 +14,9 @@ by tools/certificate.py, comes back byte for byte, and `check` accepts it in bot
 is refused, or its bracket meets the bracket of the text that it was made from; `upgrade` is refused as `check` is, or writes
 version 2; `plus` is refused as `solve` is, or its text, which `check` refuses, has a bracket that meets that of `solve`;
 no bracket is wider than tools/promise says of its game; a batch has for each file what `solve` says of it; more workers
-print the same; `info` prints the numbers of the text; what `gen` writes is solved as `drill` does; no call takes more
-memory or time than its bytes allow.
+print the same; `info` prints the numbers of the text; what `gen` writes is solved as `drill` does; `xg_close` refuses what
+`info` refuses, with its line, or its text is accepted in both versions, as narrow as is asked or not by its status, with
+true lines of progress, and its bracket meets that of `solve`; no call takes more memory or time than its bytes allow.
 
 A finding is shown with its case, and its files are kept. The last line counts what passed and failed, and the status is 1
 where something failed.
@@ -38,6 +40,8 @@ from reading import PROGRAM, ROOT  # noqa: E402
 
 sys.path += [str(ROOT / ".ci"), str(ROOT / "tools" / "lib")]
 from checks import NO_MEMORY, READ_FAULT, USAGE, WRITE_FAULT  # noqa: E402
+from close_calls import ENOUGH, USUAL_PART, WIDE, Answer as ClosedAnswer, Closing, payoff_span  # noqa: E402
+from close_calls import PROGRAM as CLOSE  # noqa: E402
 from small_games import SmallGame  # noqa: E402
 from tool_calls import in_version  # noqa: E402
 import certificate  # noqa: E402
@@ -55,8 +59,8 @@ Answer = collections.namedtuple("Answer", "status out err memory seconds")
 
 
 class Soak:
-    def __init__(self, program, folder):
-        self.program, self.folder = program, folder
+    def __init__(self, program, close, folder):
+        self.program, self.close, self.folder = program, close, folder
         self.case, self.passed, self.findings = None, 0, []
         self.statuses = collections.Counter()
 
@@ -68,17 +72,27 @@ class Soak:
 
     def call(self, *words, read=()):
         """The answer to a call, of which all is tested that holds of every one. `read` has the bytes of its files."""
+        answer = self.answer(self.program, words, read)
+        self.agrees(words, answer)
+        return answer
+
+    def closed(self, *words, read=()):
+        """The same of `xg_close`."""
+        answer = self.answer(self.close, words, read)
+        self.agrees_closing(words, answer)
+        return answer
+
+    def answer(self, program, words, read):
         out, err = self.folder / "out", self.folder / "err"
         begun = time.monotonic()
         with open(out, "wb") as written, open(err, "wb") as said:
-            process = subprocess.Popen([self.program, *words], stdin=subprocess.DEVNULL, stdout=written, stderr=said)
+            process = subprocess.Popen([program, *words], stdin=subprocess.DEVNULL, stdout=written, stderr=said)
             _, ended, usage = os.wait4(process.pid, 0)
         process.returncode = os.waitstatus_to_exitcode(ended)
         answer = Answer(
             process.returncode, out.read_bytes(), err.read_bytes(), usage.ru_maxrss << 10, time.monotonic() - begun
         )
         self.statuses[answer.status] += 1
-        self.agrees(words, answer)
         self.within(words, answer, sum(map(len, read)) + len(answer.out))
         return answer
 
@@ -90,6 +104,18 @@ class Soak:
         else:
             holds = answer.out == b"" and answer.err == LINES.get(answer.status)
         self.that(f"status, output and error of {words}", holds, answer)
+
+    def agrees_closing(self, words, answer):
+        if answer.status in (ENOUGH, WIDE):
+            is_help = answer.status == ENOUGH and answer.err == b"" and not answer.out.startswith(b"XGCERT")
+            holds = is_help or answer.out.endswith(b"\nend\n")
+        elif answer.status == 2:
+            holds = answer.out == b"" and (answer.err == b"" or answer.err.startswith(b"error: "))
+        elif answer.status == 1:
+            holds = answer.out == b"" and REFUSED.fullmatch(answer.err)
+        else:
+            holds = answer.out == b"" and answer.err == LINES.get(answer.status)
+        self.that(f"status, output and error of xg_close {words}", holds, answer)
 
     def within(self, words, answer, count):
         self.that(f"memory of {words}", answer.memory <= MEMORY + MEMORY_OF_A_BYTE * count, answer.memory)
@@ -307,7 +333,61 @@ def words_case(soak, chance):
     soak.that("words have a status", answer.status in (0, 1, 2, 3), answer)
 
 
+def asked_of_close(chance):
+    """A width, or None, and the words of a call beside the file."""
+    parts = (None, "1", "1/3", "0.01", "1e-6", f"1/{2**62}", f"{chance.randrange(1, 10**6)}/{10**9}")
+    width, rounds = chance.choice(parts), chance.choice((1, 2, 9, 10, 11, 30, 300))
+    return width, rounds, ([] if width is None else ["--width", width]) + [f"--rounds={rounds}"]
+
+
+def close_case(soak, chance):
+    """A small game or one of games/, valid or changed, whose bracket is closed to a width."""
+    stored = sorted((ROOT / "games").glob("*.efg"))
+    data = chance.choice(stored).read_bytes() if chance.random() < 0.3 else SmallGame(chance.randrange(1 << 40)).data()
+    for _ in range(chance.choice((0, 0, 1))):
+        data = changed(chance, data)
+    file = soak.file("game.efg", data)
+    width, rounds, words = asked_of_close(chance)
+    told = soak.closed(file, *words, read=(data,))
+    quiet = soak.closed("--quiet", *words, file, read=(data,))
+    soak.that("the same without progress", (quiet.status, quiet.out) == (told.status, told.out), (told, quiet))
+    info = soak.call("info", file, read=(data,))
+    if told.status not in (ENOUGH, WIDE):
+        soak.that("xg_close is refused as info is", told[:3] == quiet[:3] == info[:3], (told, quiet, info))
+        return
+    soak.that("xg_close takes what info takes", info.status == 0 and quiet.err == b"", (info, quiet.err))
+    answer, closing = ClosedAnswer(told[:3]), Closing(soak, soak.folder)
+    wanted = payoff_span(data) / USUAL_PART if width is None else certificate.Fraction(width)
+    closing.narrow("xg_close", answer, wanted)
+    closing.laid_out("xg_close", answer)
+    closing.progress("xg_close", answer, wanted, rounds)
+    closed_bracket(soak, chance, file, data, told.out)
+
+
+def closed_bracket(soak, chance, file, data, text):
+    """The text of `xg_close` is accepted, and meets the bracket of plain rounds."""
+    bracket = bracket_of(soak, text)
+    is_accepted(soak, file, data, text, bracket)
+    changed_texts(soak, chance, file, data, text, bracket)
+    solved = soak.call("solve", file, "--rounds=20", "--every=3", read=(data,))
+    low, high = bracket_of(soak, solved.out)
+    soak.that("both brackets meet", bracket[0] <= high and low <= bracket[1], (text, solved.out))
+
+
+def close_words_case(soak, chance):
+    """Words of `xg_close`, with one of them another, away or twice."""
+    game = str(ROOT / "games" / "kuhn_poker.efg")
+    words = [game, *asked_of_close(chance)[2], *chance.choice(([], ["--quiet"]))]
+    at = chance.randrange(len(words))
+    options_alone = ("--rounds", "--rounds=x", "--width=", "--width=0", "--quiet=1", "--help", "--version", "--rond=5")
+    strange = chance.choice(("", "-", "--", *options_alone, "0", "-1", "é", "solve"))
+    words[at : at + 1] = chance.choice(([], [strange], [words[at], strange], [words[at], words[at]]))
+    answer = soak.closed(*words, read=(pathlib.Path(game).read_bytes(),))
+    soak.that("words of xg_close have a status", answer.status in (0, 1, 2, 3, 6), answer)
+
+
 CASES = (game_case, game_case, game_case, stored_case, poker_case, batch_case, words_case)
+CLOSE_CASES = (close_case, close_case, close_words_case)
 
 
 def keep(folder, number):
@@ -320,12 +400,13 @@ def keep(folder, number):
 def run(soak, seed, seconds):
     """The number of cases that were run in this time."""
     ends = time.monotonic() + seconds
+    cases = CASES + (CLOSE_CASES if os.access(soak.close, os.X_OK) else ())
     for number in itertools.count(1):
         if time.monotonic() >= ends:
             return number - 1
         soak.case, before = number, len(soak.findings)
         chance = random.Random(f"{seed} {number}")
-        chance.choice(CASES)(soak, chance)
+        chance.choice(cases)(soak, chance)
         if len(soak.findings) > before:
             keep(soak.folder, number)
 
@@ -333,11 +414,12 @@ def run(soak, seed, seconds):
 def main():
     parser = argparse.ArgumentParser(description=__doc__, formatter_class=argparse.RawDescriptionHelpFormatter)
     parser.add_argument("program", metavar="PROGRAM", nargs="?", default=str(PROGRAM))
+    parser.add_argument("--close", metavar="FILE", default=str(CLOSE))
     parser.add_argument("--seconds", metavar="N", type=int, default=60)
     parser.add_argument("--seed", metavar="N", type=int, default=1)
     given = parser.parse_args()
     with tempfile.TemporaryDirectory() as folder:
-        soak = Soak(given.program, pathlib.Path(folder))
+        soak = Soak(given.program, given.close, pathlib.Path(folder))
         cases = run(soak, given.seed, given.seconds)
     statuses = ", ".join(f"{count} of status {status}" for status, count in sorted(soak.statuses.items()))
     print(f"{cases} cases, calls: {statuses}")
