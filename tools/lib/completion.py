@@ -90,9 +90,18 @@ def options_of(page):
     return options, set(re.findall(r"but `(\w+)` not `(--[\w-]+)`", page))
 
 
+def case_without_commands(name, page):
+    """The case of a program that has no commands: an option has a value where its page's table names one."""
+    options = re.findall(r"^\| `(--[\w-]+)(?: (\w+))?` \|", page, re.M)
+    places = [kind_of(it) for words, _ in man_page.words_of(page) for it in words.split()]
+    return case(name, [it for it, _ in options], {it: kind_of(value) for it, value in options if value}, places)
+
+
 def cases_of_program(name, page):
     options, without = options_of(page)
     words = man_page.words_of(page)
+    if all(it.isupper() for it, _ in words):
+        return case_without_commands(name, page)
     lines = case(name, ["commands"], {}, [" ".join(it.split()[0] for it, _ in words)])
     for told, rest in words:
         command, *places = told.split()
