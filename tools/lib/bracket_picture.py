@@ -6,6 +6,8 @@ from xml.sax.saxutils import escape
 from rounding import DOWN, UP, to_digits
 
 LOW_COLOUR, HIGH_COLOUR, VALUE_COLOUR = "#1f5fa8", "#b3471d", "#555555"
+# So many digits of a mark there is room for, and no mark has more than so many.
+MOST_DIGITS, MOST_PLACES = 6, 100
 
 
 class Canvas:
@@ -29,20 +31,20 @@ class Axis:
         self.least, self.most = self.scaled(least), self.scaled(most)
 
     def scaled(self, number):
-        return math.log10(number) if self.is_log else float(number)
+        return math.log10(number) if self.is_log else number
 
     def place(self, number):
         width = self.most - self.least
-        part = (self.scaled(number) - self.least) / width if width else 0.5
+        part = float((self.scaled(number) - self.least) / width) if width else 0.5
         return self.start + part * (self.end - self.start)
 
 
-def round_numbers(least, most, least_step=0.0):
+def round_numbers(least, most, least_step=0):
     """Multiples of 1, 2 or 5 times a power of ten, at most about six of them."""
-    width = float(most - least)
-    power = 10.0 ** math.floor(math.log10(width / 6))
-    step = max(least_step, next(k * power for k in (1, 2, 5, 10) if k * power * 6 >= width * 0.999))
-    first, last = math.ceil(float(least) / step - 1e-9), math.floor(float(most) / step + 1e-9)
+    width = Fraction(most - least)
+    power = Fraction(10) ** math.floor(math.log10(width / 6))
+    step = max(least_step, next(k * power for k in (1, 2, 5, 10) if k * power * 6 >= width * Fraction(999, 1000)))
+    first, last = math.ceil(least / step), math.floor(most / step)
     return [k * step for k in range(first, last + 1)]
 
 
@@ -52,7 +54,19 @@ def powers(least, most):
 
 
 def number(value):
-    return f"{value:.6g}"
+    return f"{float(value):.{MOST_DIGITS}g}"
+
+
+def told_marks(marks):
+    """What is said of marks, and above which number that counts, or an empty text: of numbers that have to be long to be
+    told apart, how much each is above the first."""
+    step = min((later - mark for mark, later in zip(marks, marks[1:])), default=0)
+    largest = max(map(abs, marks), default=0)
+    if not step or largest < step * 10**MOST_DIGITS:
+        return [number(mark) for mark in marks], ""
+    # A mark is a multiple of a power of ten, so its decimal ends.
+    first = to_digits(marks[0], MOST_PLACES, DOWN).normalize()
+    return [number(mark - marks[0]) for mark in marks], f" above {first:f}"
 
 
 def bound(name, value):
@@ -87,9 +101,10 @@ def frame(canvas, x_axis, y_axis, units):
     thin, grid = 'stroke="#333333"', 'stroke="#dddddd"'
     right, middle = 'text-anchor="end"', 'text-anchor="middle"'
     parts = []
-    for mark in y_axis.marks:
+    told, above = told_marks(y_axis.marks)
+    for mark, it in zip(y_axis.marks, told):
         y = round(y_axis.place(mark), 1)
-        parts += [line(left, y, canvas.right, y, grid), label(left - 8, y + 4, number(mark), right)]
+        parts += [line(left, y, canvas.right, y, grid), label(left - 8, y + 4, it, right)]
     for mark in x_axis.marks:
         x = round(x_axis.place(mark), 1)
         parts += [line(x, canvas.top, x, floor, grid), label(x, floor + 18, number(mark), middle)]
@@ -97,7 +112,8 @@ def frame(canvas, x_axis, y_axis, units):
     parts.append(line(left, floor, canvas.right, floor, thin))
     parts.append(label((left + canvas.right) / 2, canvas.height - 14, "rounds played", middle))
     up = (canvas.top + floor) / 2
-    parts.append(label(20, up, units, f'{middle} transform="rotate(-90 20 {up:g})"'))
+    whose, comma, where = units.partition(",")
+    parts.append(label(20, up, f"{whose}{above}{comma}{where}", f'{middle} transform="rotate(-90 20 {up:g})"'))
     return parts
 
 
@@ -118,7 +134,7 @@ def picture(text, title, player, value=None, is_log=False, canvas=WIDE, below=No
     first, last = rows[0][0], rows[-1][0]
     least, most = min(heights) - room, max(heights) + room
     y_axis = Axis(round_numbers(least, most), least, most, canvas.bottom, canvas.top)
-    begin, marks = (first, powers(first, last)) if is_log else (0, round_numbers(0, last, 1.0))
+    begin, marks = (first, powers(first, last)) if is_log else (0, round_numbers(0, last, 1))
     x_axis = Axis(marks, begin, last, canvas.left, canvas.right, is_log)
     width, height = canvas.width, canvas.height
     parts = [
@@ -158,9 +174,10 @@ def span(low, high, pay, player):
         f'<rect width="100%" height="{height}" fill="white"/>',
         wide_line("1%", floor, "99%", floor),
     ]
-    for mark in axis.marks:
+    told, above = told_marks(axis.marks)
+    for mark, it in zip(axis.marks, told):
         x = part_of(axis, mark)
-        parts += [wide_line(x, floor, x, floor + 5), wide_label(x, floor + 19, number(mark))]
+        parts += [wide_line(x, floor, x, floor + 5), wide_label(x, floor + 19, it)]
     if low == high:
         is_exact = bound("LOW", low) == bound("HIGH", high)
         parts.append(wide_label(left, 18, f"LOW and HIGH {'' if is_exact else 'about '}{float(low):.4g}"))
@@ -170,7 +187,7 @@ def span(low, high, pay, player):
     parts.append(wide_line(left, 32, right, 32, 3))
     parts += [wide_line(x, 25, x, floor, 3) for x in (left, right)]
     parts.append(f'<circle cx="{met}" cy="32" r="5" fill="white" stroke="#333333" stroke-width="2"/>')
-    parts.append(wide_label("50%", height - 4, f"{player}'s payoff"))
+    parts.append(wide_label("50%", height - 4, f"{player}'s payoff{above}"))
     return "\n".join(parts + ["</svg>", ""])
 
 
