@@ -9,7 +9,7 @@ use std::alloc::{AllocError, Global};
 use std::sync::Wait;
 use std::thread::Threads;
 use xg_io::Gate;
-use xg_jobs::{JobTable, RowInput, RowMaker, Rows};
+use xg_jobs::{JobTable, RowInput, RowMaker, Rows, SmallRows};
 
 /// Makes rows by workers in threads, with the rows cut into stripes.
 ///
@@ -55,7 +55,7 @@ pub struct MadeBy<F> {
 }
 
 impl<F: Fn(&RowInput<'_>, &JobTable) -> Result<Rows, AllocError>> RowMaker for MadeBy<F> {
-    ghost use Rattle.std.specs.Prelude.{IfOk, true};
+    ghost use Rattle.std.specs.Prelude.{IfOk, false, true};
     ghost use Rattle.xg_jobs.specs.Rows.{AreNumbersOf, ArePlainSums};
     ghost use Rattle.xg_jobs.specs.Table.{IsTableOf};
 
@@ -67,6 +67,8 @@ impl<F: Fn(&RowInput<'_>, &JobTable) -> Result<Rows, AllocError>> RowMaker for M
         → IfOk made (λ rows. ArePlainSums input.now.form.now input.now.one.now input.now.two.now rows)) };
 
     ghost by_packets = { λ _. true };
+
+    ghost makes_small = { λ _. false };
 
     fn makes_packets(&self) -> bool {
         true
@@ -80,5 +82,9 @@ impl<F: Fn(&RowInput<'_>, &JobTable) -> Result<Rows, AllocError>> RowMaker for M
         jobs: &JobTable,
     ) -> Result<Rows, AllocError> {
         (self.make)(input, jobs)
+    }
+
+    fn small_rows(&self, _input: &RowInput<'_>, _jobs: &JobTable, _rows: &mut SmallRows) -> bool {
+        false
     }
 }

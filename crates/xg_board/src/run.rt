@@ -1,5 +1,5 @@
 //! The run of all workers over the jobs of a round.
-ghost use Rattle.std.specs.Prelude.{◌≡◌, ◌<◌, ◌≤◌, ◌+◌, [], IfOk, IsTrue, All, false, length, vec_capacity, vec_len};
+ghost use Rattle.std.specs.Prelude.{◌≡◌, ◌<◌, ◌≤◌, ◌+◌, ◌^◌, [], IfOk, IsTrue, All, false, length, vec_capacity, vec_len};
 ghost use Rattle.def_sums.specs.Limits.{most_workers, most_stripes};
 ghost use Rattle.def_plan.specs.FormRows.{row_count};
 ghost use Rattle.xg_jobs.specs.Rows.{AreNumbersOf, ArePlainSums};
@@ -47,6 +47,8 @@ fn add_next<Rt: Threads + Wait + Sync, N: RowName, G: Gate>(
     ensures more { IsTrue result
         → IsReady (number_from board.now.jobs board.now.stripes) (most_touched jobs.now.touched) worker.new.pass
         worker.new.packet.entries }
+    ensures grouped { IsTrue result → length worker.new.packet.entries.list < 2 ^ 32
+        → worker.new.packet.entries.chained ≡ board.now.stripes }
     ensures done { result ≡ false → IsSpent worker.new.pass }
 {
     let Some(job) = board.draw(rt, &mut worker.pass) else {
