@@ -1,5 +1,5 @@
 //! The engine: a game in numbers, with what its last run left.
-ghost use Rattle.std.specs.Prelude.{◌≡◌, ◌≤◌, Err, IfOk, IfSome, None, OnErr, OnOk, Some};
+ghost use Rattle.std.specs.Prelude.{◌≡◌, ◌≤◌, Err, IfOk, IfSome, None, OnErr, OnOk, Some, false};
 ghost use Rattle.std.specs.Option.{option_map};
 ghost use Rattle.std.specs.Thread.{IsSync};
 ghost use Rattle.def_cert_verdict.specs.Laws.{IsHeadOf};
@@ -226,6 +226,7 @@ fn note_rows<M: RowMaker>(
 ) -> Result<(), AllocError>
     requires { HasLeavesOf form.now jobs.old }
     ensures serves { OnOk result (Serves (M.by_packets maker.now) form.now jobs.new) }
+    ensures without { M.by_packets maker.now ≡ false → jobs.new ≡ jobs.old }
     ensures leaves { HasLeavesOf form.now jobs.new }
 {
     if maker.makes_packets() {

@@ -1,9 +1,9 @@
 //! The evaluation of the sums of plans after a round.
-ghost use Rattle.std.specs.Prelude.{◌≡◌, ◌<◌, IfOk, OnOk, length};
+ghost use Rattle.std.specs.Prelude.{◌≡◌, ◌<◌, IfOk, IsTrue, OnOk, length};
 ghost use Rattle.std.specs.Thread.{IsSync};
 ghost use Rattle.def_reply.specs.Offers.{new_board, offered};
 ghost use Rattle.xg_bracket.specs.Board.{last_round};
-ghost use Rattle.xg_jobs.specs.Rows.{ArePlainSums};
+ghost use Rattle.xg_jobs.specs.Rows.{ArePlainSums, HaveSmallRows};
 ghost use Rattle.xg_jobs.specs.Table.{Serves};
 ghost use Rattle.xg_engine.specs.Evaluations.{AreSumsAfter, CanEvaluate, HasRoomForRows, best_offer};
 ghost use Rattle.xg_engine.specs.Players.{IsSmallPlan, IsSoundForm};
@@ -60,6 +60,9 @@ impl RowRoom {
         requires plan_two { IsSmallPlan source.now.form.now.sets_two two.now }
         requires room { HasRoomForRows source.now.form.now self.old }
         ensures sums { OnOk result (ArePlainSums source.now.form.now one.now two.now self.new.rows) }
+        ensures small { OnOk result (IsTrue (M.makes_small source.now.maker.now)
+            → HaveSmallRows source.now.form.now one.now two.now
+            → ArePlainSums source.now.form.now one.now two.now self.new.small_rows) }
         ensures room { OnOk result (HasRoomForRows source.now.form.now self.new) }
     {
         if source.small_rows(one, two, &mut self.small_rows) {

@@ -1,5 +1,5 @@
 //! Both players from round to round.
-ghost use Rattle.std.specs.Prelude.{◌≡◌, ◌+◌, ◌*◌, ◌<◌, ◌≤◌, ℕ, List, IfOk, OnOk};
+ghost use Rattle.std.specs.Prelude.{◌≡◌, ◌+◌, ◌*◌, ◌<◌, ◌≤◌, ℕ, List, IfOk, IsTrue, OnOk};
 ghost use Rattle.std.specs.Prelude.{length, pos, replicate, slice_index, unsigned_abs};
 ghost use Rattle.std.specs.Thread.{IsSync};
 ghost use Rattle.def_sums.specs.Limits.{most_root, most_rounds, most_scale, most_round_row};
@@ -11,6 +11,7 @@ ghost use Rattle.def_round.specs.Play.{GivesAllUnits, plan_of_play, play_of};
 ghost use Rattle.def_round.specs.Round.{own_sum, regrets_after};
 ghost use Rattle.def_plus.specs.declared.Variant.{Variant};
 ghost use Rattle.def_plus.specs.Variants.{most_rounds_of, most_scale_of};
+ghost use Rattle.xg_jobs.specs.Rows.{ArePlainSums, HaveSmallRows};
 ghost use Rattle.xg_jobs.specs.Table.{Serves};
 ghost use Rattle.xg_plan.specs.Plan.{AreOfOneForm};
 ghost use Rattle.xg_engine.specs.Players.{CanGrow, HasRoomForSequences, IsSoundForm, StandAfter, StandsWith};
@@ -99,6 +100,7 @@ impl Learner {
             ≡ regrets_kept variant (regrets_after sums self.old.play sets self.old.regrets.of_sequences) }
         ensures closed { self.new.regrets.closed ≡ self.old.regrets.closed + 1 }
         ensures sums { self.new.sum ≡ self.old.sum }
+        ensures plan { self.new.plan ≡ self.old.plan }
     {
         close_round(form, player, &mut self.regrets, &self.play, rows);
         cut_regrets(&mut self.regrets, variant);
@@ -119,6 +121,7 @@ impl Learner {
             ≡ regrets_kept variant (regrets_after sums self.old.play sets self.old.regrets.of_sequences) }
         ensures closed { self.new.regrets.closed ≡ self.old.regrets.closed + 1 }
         ensures sums { self.new.sum ≡ self.old.sum }
+        ensures plan { self.new.plan ≡ self.old.plan }
     {
         close_small_round(form, player, &mut self.regrets, &self.play, rows);
         cut_regrets(&mut self.regrets, variant);
@@ -154,7 +157,10 @@ impl Players {
         requires small_scale { scale ≤ most_scale_of variant }
         requires few_rounds { so_far < most_rounds_of variant }
         requires stand { StandAfter variant source.now.form.now scale so_far self.old }
-        ensures { OnOk result (StandAfter variant source.now.form.now scale (so_far + 1) self.new) }
+        ensures stand { OnOk result (StandAfter variant source.now.form.now scale (so_far + 1) self.new) }
+        ensures small { OnOk result (IsTrue (M.makes_small source.now.maker.now)
+            → HaveSmallRows source.now.form.now self.new.one.plan self.new.two.plan
+            → ArePlainSums source.now.form.now self.new.one.plan self.new.two.plan self.new.rows) }
     {
         let round = u64::from(so_far) + 1;
         self.one

@@ -1,8 +1,8 @@
 //! Where a run's rows come from.
-ghost use Rattle.std.specs.Prelude.{◌≡◌, IfOk, IsTrue, length};
+ghost use Rattle.std.specs.Prelude.{◌≡◌, ◌↔◌, IfOk, IsTrue, length};
 ghost use Rattle.std.specs.Thread.{IsSync};
 ghost use Rattle.def_plan.specs.Form.{sequence_count};
-ghost use Rattle.xg_jobs.specs.Rows.{AreNumbersOf, ArePlainSums};
+ghost use Rattle.xg_jobs.specs.Rows.{AreNumbersOf, ArePlainSums, HaveSmallRows};
 ghost use Rattle.xg_jobs.specs.Table.{HasLeavesOf, Serves};
 ghost use Rattle.xg_engine.specs.Players.{IsSmallPlan};
 
@@ -37,13 +37,15 @@ impl<'a, Rt: Threads + Wait + Sync, M: RowMaker> RowSource<'a, Rt, M> {
             .rows(self.rt, self.alloc, &self.input(one, two), self.jobs)
     }
 
-    /// The same in 64 bits, if the maker makes them and they surely have room. Takes no memory.
+    /// The same in 64 bits, if the maker makes them and it is known that they have room. Takes no memory.
     pub(crate) fn small_rows(&self, one: &Plan, two: &Plan, rows: &mut SmallRows) -> bool
         requires table { HasLeavesOf self.now.form.now self.now.jobs.now }
         requires plan_one { IsSmallPlan self.now.form.now.sets_one one.now }
         requires plan_two { IsSmallPlan self.now.form.now.sets_two two.now }
         requires rows_one { length rows.old.one ≡ sequence_count self.now.form.now.sets_one }
         requires rows_two { length rows.old.two ≡ sequence_count self.now.form.now.sets_two }
+        ensures small { IsTrue result ↔ (IsTrue (M.makes_small self.now.maker.now)
+            × HaveSmallRows self.now.form.now one.now two.now) }
         ensures sums { IsTrue result → ArePlainSums self.now.form.now one.now two.now rows.new }
         ensures count_one { length rows.new.one ≡ length rows.old.one }
         ensures count_two { length rows.new.two ≡ length rows.old.two }

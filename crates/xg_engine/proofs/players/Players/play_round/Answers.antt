@@ -61,8 +61,8 @@ learn-requires-2-clause-small g c =
     small_in_round form Two c.plan_round.new.self.plan c.two-2.result.now (c.two-2.ensures ∙ c.in_ok-rows.ensures.two)
     form.sets_one c.args.scale c.requires.form.order_one c.plan_round.ensures.is_plan c.requires.form.small_mass (scale_within c.args.variant c.args.scale c.requires.small_scale)
 
-pub returns-then-small_rows : goal.returns-then-small_rows
-returns-then-small_rows g c =
+pub returns-then-small_rows-clause-stand : goal.returns-then-small_rows-clause-stand
+returns-then-small_rows-clause-stand g c =
     let form = c.args.source.now.form.now in
     let root = c.args.scale in
     let variant = c.args.variant in
@@ -84,8 +84,8 @@ returns-then-small_rows g c =
     (record { room = learned_two.room; regrets = learned_two.regrets learner_one.plan (c.two.ensures ∙ (c.small_rows.ensures.sums c.if-small_rows.true).two); closed = learned_two.closed; sums = learned_two.sums })
     (c.small_rows.ensures.count_one ∙ stand.rows_one) (c.small_rows.ensures.count_two ∙ stand.rows_two)
 
-pub returns : goal.returns
-returns g c =
+pub returns-clause-stand : goal.returns-clause-stand
+returns-clause-stand g c =
     let form = c.args.source.now.form.now in
     let root = c.args.scale in
     let variant = c.args.variant in

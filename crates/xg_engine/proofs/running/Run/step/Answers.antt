@@ -13,7 +13,7 @@ evaluate-requires-clause-plans g c κs within =
     let players = c.play_round.new.self in
     subst (λ v. AreSumsAfter v form n players.one.sum players.two.sum) (sym c.requires.run.room.variant_is)
     (sums_of_players c.args.variant form c.args.settings.scale c.requires.form limits.some_scale limits.small_scale
-    n players c.in_ok-play_round.ensures (omega arith) (omega (arith, c.requires.next, limits.few_rounds)))
+    n players c.in_ok-play_round.ensures.stand (omega arith) (omega (arith, c.requires.next, limits.few_rounds)))
 
 pub evaluate-requires-clause-room : goal.evaluate-requires-clause-room
 evaluate-requires-clause-room g c κs within =
@@ -34,7 +34,7 @@ returns-in_ok-evaluate g c =
     let settings = c.args.settings in
     let n = c.args.so_far in
     let run = c.requires.run in
-    let stand = c.in_ok-play_round.ensures in
+    let stand = c.in_ok-play_round.ensures.stand in
     let due = due_now c.args.variant form settings n c.then-round-settings-eq0.either in
     let players = c.play_round.new.self in
     let before = c.args.self.now.evaluator.board.board in
@@ -59,7 +59,7 @@ returns-else-round-settings g c =
     let n = c.args.so_far in
     let run = c.requires.run in
     record {
-      players = c.in_ok-play_round.ensures;
+      players = c.in_ok-play_round.ensures.stand;
       room = run.room;
       board = run.board ∙ ap board_after (sym (offers_same c.args.variant form settings n (not_due c.args.variant form settings n c.if-round-settings-eq0.false c.if-round-settings.false)));
       last = omega (arith, run.last);
