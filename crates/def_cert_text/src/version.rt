@@ -1,7 +1,7 @@
 //! The versions of a certificate's text.
 
 /// The version of a text, which its first line names.
-#[derive(Clone, Copy, Debug, PartialEq, Eq)]
+#[derive(Clone, Copy, PartialEq, Eq)]
 pub enum TextVersion {
     /// The sum stands behind the unit, where it isn't 0.
     One,

@@ -3,7 +3,7 @@
 use def_tree::Player;
 
 /// An end of the bracket.
-#[derive(Clone, Copy, Debug, PartialEq, Eq)]
+#[derive(Clone, Copy, PartialEq, Eq)]
 pub enum Which {
     /// The floor of player one's plan, which the reply of player two shows.
     Lower,
@@ -12,7 +12,7 @@ pub enum Which {
 }
 
 /// The first test that a certificate fails. Sets, actions and the lines of the text count from 1.
-#[derive(Clone, Copy, Debug, PartialEq, Eq)]
+#[derive(Clone, Copy)]
 pub enum TestFault {
     /// A line of the head isn't the game's.
     HeadDiffers {

@@ -55,7 +55,7 @@ pub enum FileFault {
 }
 
 /// Who moves at an entry: chance, a player, or nobody at a leaf.
-#[derive(Clone, Copy, Debug, PartialEq, Eq)]
+#[derive(Clone, Copy, PartialEq, Eq)]
 pub enum EntryKind {
     Chance,
     Personal,

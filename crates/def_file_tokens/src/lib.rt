@@ -6,7 +6,7 @@ ghost use Rattle.def_file_tokens.specs.Laws.{NoByteIsSpace, EndStays, PiecesAreR
 ghost use Rattle.def_file_tokens.specs.Laws.{OneSpelling};
 
 /// What a token is.
-#[derive(Clone, Copy, Debug, PartialEq, Eq)]
+#[derive(Clone, Copy, PartialEq, Eq)]
 pub enum Token {
     /// A run that begins with an ASCII letter.
     Word,
@@ -25,7 +25,7 @@ pub enum Token {
 }
 
 /// A token with its span: the offset of its first byte and the offset behind its last one.
-#[derive(Clone, Copy, Debug, PartialEq, Eq)]
+#[derive(Clone, Copy, PartialEq, Eq)]
 pub struct Lexeme {
     pub kind: Token,
     pub start: usize,

@@ -15,7 +15,7 @@ pub const MOST_PLUS_ROUNDS: u32 = 2_048;
 pub const MOST_PLUS_SCALE: u32 = 16_384;
 
 /// Which rounds are played.
-#[derive(Clone, Copy, Debug, PartialEq, Eq)]
+#[derive(Clone, Copy)]
 pub enum Variant {
     /// Rounds of counterfactual regret minimisation, each of which weighs 1 (Zinkevich, Johanson, Bowling and Piccione
     /// 2007).

@@ -14,14 +14,14 @@ pub const MOST_ACTIONS: u32 = 1_024;
 pub const MOST_NODES: usize = 1_048_576;
 
 /// One of the two players. Player one is paid, and player two pays.
-#[derive(Clone, Copy, Debug, PartialEq, Eq)]
+#[derive(Clone, Copy, PartialEq, Eq)]
 pub enum Player {
     One,
     Two,
 }
 
 /// Who moves at a node: chance, a player, or nobody at a leaf.
-#[derive(Clone, Copy, Debug, PartialEq, Eq)]
+#[derive(Clone, Copy, PartialEq, Eq)]
 pub enum Kind {
     Chance,
     One,
@@ -33,7 +33,7 @@ pub enum Kind {
 ///
 /// Information sets are numbered within their kind, and outcomes within the game; 0 stands for no set and for the null
 /// outcome.
-#[derive(Clone, Copy, Debug, PartialEq, Eq)]
+#[derive(Clone, Copy, PartialEq, Eq)]
 pub struct Node {
     pub kind: Kind,
     pub set: u32,

@@ -7,7 +7,7 @@ use std::marker::Model;
 
 /// An exact fraction in lowest terms, whose parts are at most 2^100 in size and whose denominator is at least 1. Equal
 /// fractions have equal parts.
-#[derive(Clone, Copy, Debug, PartialEq, Eq)]
+#[derive(Clone, Copy, PartialEq, Eq)]
 pub struct Ratio {
     num: i128,
     den: i128,
