@@ -148,4 +148,9 @@ impl GameMaker {
     {
         Game::of(self.prologue, self.tables)
     }
+
+    /// Lets go of what was taken, as `drop` does. A caller that drops a maker itself has code of its own for each table.
+    pub fn discard(self) {
+        drop(self);
+    }
 }

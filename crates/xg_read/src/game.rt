@@ -56,13 +56,13 @@ fn read_file(alloc: Global, bytes: &[u8]) -> Result<Game, Refused>
     let read = read_entries(&mut reader, &mut lists, &mut maker, MOST_ENTRIES);
     drop(lists);
     if let Err(refused) = read {
-        drop(maker);
+        maker.discard();
         return Err(refused);
     }
     match reader.nothing() {
         Ok(_) => Ok(maker.finish()),
         Err(fault) => {
-            drop(maker);
+            maker.discard();
             Err(Refused::File(fault))
         }
     }
