@@ -3,7 +3,6 @@ ghost use Rattle.std.specs.Prelude.{◌≡◌, ◌<◌, ◌≤◌, ◌+◌, ◌^
 ghost use Rattle.std.specs.Prelude.{pos, ◌+ℤ◌, unsigned_abs, slice_index_or, slice_set};
 ghost use Rattle.def_sums.specs.Limits.{most_stripes};
 ghost use Rattle.def_history.specs.History.{stripe_of};
-ghost use Rattle.def_history.specs.Packets.{AreRising};
 ghost use Rattle.xg_rowcore.specs.Chains.{IsNextOf, rows_of_entries, usual_stripes};
 ghost use Rattle.xg_rowcore.specs.Packets.{IsAboveLast, entry_in, with_added, with_amount, zeros_at};
 
@@ -165,12 +164,5 @@ impl RowEntries {
         } else {
             seek(&self.rows, stripes, stripe_of(self.rows[i], stripes), i + 1)
         }
-    }
-
-    /// What the type keeps.
-    pub(crate) fn are_rising(&self)
-        ensures { AreRising self.now.list }
-    {
-        let _room = self.room;
     }
 }

@@ -2,7 +2,6 @@
 ghost use Rattle.std.specs.Prelude.{◌≡◌, ◌<◌, ◌≤◌, ◌+◌, ◌^◌, ◌++◌, ◌+ℤ◌, [], ◌∷◌, length, unsigned_abs, IfOk};
 ghost use Rattle.def_sums.specs.Limits.{most_stripes};
 ghost use Rattle.def_history.specs.History.{stripe_of};
-ghost use Rattle.def_history.specs.Packets.{AreRising};
 ghost use Rattle.xg_rowcore.specs.Chains.{IsNextOf, rows_of_entries, usual_stripes};
 ghost use Rattle.xg_rowcore.specs.Packets.{IsAboveLast, entry_in, with_added, with_amount, zeros_at};
 
@@ -148,12 +147,5 @@ impl Packet {
             IsNextOf stripes stripe (rows_of_entries self.now.entries.list) (i + 1) result }
     {
         self.entries.next_of(stripes, i)
-    }
-
-    /// Each row is above all before it: what the type keeps.
-    pub fn rows_rise(&self)
-        ensures { AreRising self.now.entries.list }
-    {
-        self.entries.are_rising();
     }
 }

@@ -147,17 +147,6 @@ bracket -11/15 2/15
 end
 "#;
 
-/// The game of one leaf, of which no round was asked.
-pub const ONE_LEAF_HEAD: &str = r#"XGCERT 1
-nodes 1 leaves 1
-sets 0 0
-sequences 1 1
-unit 1
-mass 0
-rounds 0 every 1 scale 1048576
-end
-"#;
-
 /// The certificate of matching pennies in version 2.
 pub const PENNIES_IN_TWO: &str = r#"XGCERT 2
 nodes 7 leaves 4
@@ -258,7 +247,7 @@ second -1/2 5/12
 end
 "#;
 
-/// That of the game of one leaf in version 2.
+/// The game of one leaf, of which no round was asked, in version 2.
 pub const ONE_LEAF_HEAD_IN_TWO: &str = r#"XGCERT 2
 nodes 1 leaves 1
 sets 0 0
