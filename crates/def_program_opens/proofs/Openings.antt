@@ -1,9 +1,9 @@
 -- Which names a command may ask the files for, in other words.
 use Rattle.std.proofs.Common.{◌≡◌, ℕ, ◌<◌, ◌≤◌, Bool, List, [], ◌∷◌, length, Option, Some, None, sym, subst, arith}
-use Rattle.std.specs.Prelude.{All, Contains, IfSome, IsTrue}
+use Rattle.std.specs.Prelude.{All, Contains, IsTrue}
 use Rattle.std.proofs.lemmas.List.Elements.{All-nil, All-cons, All-contains, All-head, All-tail, Contains-get_or}
 use Rattle.def_file.specs.Reading.{most_bytes}
-use Rattle.def_command.specs.Grammar.{Batch, Check, Command, Drill, Gen, Info, Plus, Solve, Upgrade, files_of}
+use Rattle.def_command.specs.Grammar.{Batch, Check, Command, Drill, Gen, Info, Plus, Solve, Upgrade}
 use Rattle.def_program.specs.Lines.{IsCheck}
 use Rattle.def_program_opens.specs.MayOpen.{IsNotTooLong, MayOpen, MayOpenBoth}
 use Rattle.def_program_opens.specs.Openings.{AsksForTwo, MayOpenEach, OpeningsAreRead}
@@ -45,9 +45,10 @@ module _ (told : List ℕ → Option (List ℕ)) (may_open : List ℕ → Bool) 
   two file certificate = (
     λ may and. (each (file ∷ certificate ∷ [])).0
         (All-cons May file (certificate ∷ []) may (All-cons May certificate [] and (All-nil May))),
-    λ named. let all = (each (file ∷ certificate ∷ [])).1 named in
-        (All-head May file (certificate ∷ []) all,
-        All-head May certificate [] (All-tail May file (certificate ∷ []) all)),
+    λ named. let all = (each (file ∷ certificate ∷ [])).1 named in (
+      All-head May file (certificate ∷ []) all,
+      All-head May certificate [] (All-tail May file (certificate ∷ []) all),
+    ),
   )
 
   both : (file certificate : List ℕ) → IsNotTooLong (told file)
@@ -68,15 +69,15 @@ module _ (told : List ℕ → Option (List ℕ)) (may_open : List ℕ → Bool) 
   others : (command : Option Command) → (IsCheck command → ⊥)
       → (MayOpen told may_open command → MayOpenEach may_open command)
       × (MayOpenEach may_open command → MayOpen told may_open command)
-  others None no = none
-  others (Some (Solve file settings rows)) no = one file
-  others (Some (Plus file settings rows)) no = one file
-  others (Some (Batch files settings workers)) no = each files
-  others (Some (Check file certificate)) no = absurd (no tt)
-  others (Some (Upgrade file certificate)) no = absurd (no tt)
-  others (Some (Info file)) no = one file
-  others (Some (Gen cards)) no = none
-  others (Some (Drill cards settings rows)) no = none
+  others None unchecked = none
+  others (Some (Solve file settings rows)) unchecked = one file
+  others (Some (Plus file settings rows)) unchecked = one file
+  others (Some (Batch files settings workers)) unchecked = each files
+  others (Some (Check file certificate)) unchecked = absurd (unchecked tt)
+  others (Some (Upgrade file certificate)) unchecked = absurd (unchecked tt)
+  others (Some (Info file)) unchecked = one file
+  others (Some (Gen cards)) unchecked = none
+  others (Some (Drill cards settings rows)) unchecked = none
 
 check_asks : AsksForTwo Check
 check_asks = record {

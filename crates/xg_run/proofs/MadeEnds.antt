@@ -1,5 +1,5 @@
 -- How a command ends that reads no file.
-use Rattle.std.proofs.Common.{◌≡◌, ℕ, ◌≤◌, List, Option, Some, Err, sym, ◌∙◌, ap, subst}
+use Rattle.std.proofs.Common.{◌≡◌, ℕ, ◌≤◌, List, Option, Some, Err, ◌∙◌, ap, subst}
 use Rattle.def_sums.specs.Limits.{least_cards, most_cards}
 use Rattle.def_outside.specs.Calls.{FilesCall, SinkCall, HasNoFault}
 use Rattle.def_file.specs.declared.FileFault.{FileFault}

@@ -1,6 +1,6 @@
 -- What holds of a command that ends so, whatever the command is. `checks` says whether it checks a certificate, `meant`
 -- which answers are meant by what the files tell.
-use Rattle.std.specs.Prelude.{◌≡◌, List, ℕ, Option, IsSomeAnd, string_bytes}
+use Rattle.std.specs.Prelude.{List, ℕ, Option, IsSomeAnd, string_bytes}
 use Rattle.def_outside.specs.Calls.{FilesCall, SinkCall, HasFailedOnce, HasNoFault, Wrote, WroteFront, IsUntouched}
 use Rattle.def_file.specs.Content.{GameFile}
 use Rattle.def_program.specs.Program.{Answer, success, refusal, usage}

@@ -14,8 +14,8 @@ returns-in-Ok-open g c =
     subst (λ (game : GameFile). Tells (solved (settings_seen c.args.settings) game)
     (sink_call g.O.Sink c.args.out.now c.play.new.out) c.play.result) (c.in-Ok-open.ensures.0 ∙ c.in-Ok.ensures) c.play.ensures
 
-pub prove-unreachable-requires : goal.prove-unreachable-requires
-prove-unreachable-requires g c κs at =
+pub unreachable-requires : goal.unreachable-requires
+unreachable-requires g c =
     let arm = c.in-Err-File in
-    poker_is_opened c.args.cards c.requires.low c.requires.high c.in-Ok.game arm.field-0.field-0 c.in-Ok.ensures
+    poker_is_opened c.args.cards c.requires.low c.requires.high c.in-Ok.game _ c.in-Ok.ensures
     (subst (λ (x : Refused). Opens c.in-Ok.game (Err x)) arm.field-0-is arm.ensures)

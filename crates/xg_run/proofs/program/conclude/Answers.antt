@@ -6,7 +6,6 @@ use Rattle.def_outside.specs.Calls.{FilesCall, SinkCall}
 use Rattle.xg_io.specs.Calls.{files_call, sink_call}
 use Rattle.def_plus.specs.declared.Variant.TheVariants as variants
 use Rattle.def_command.specs.Grammar as grammar
-use Rattle.def_command.specs.Grammar.{command_of_words}
 use Rattle.def_command.proofs.InRange.{cards_in_range}
 use Rattle.def_file.specs.Content.{GameFile}
 use Rattle.def_canon.specs.Canon.{canon}
