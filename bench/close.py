@@ -12,7 +12,9 @@ of `solve` and `plus` are those with --every 10, after the rounds that first hav
 OTHER are sources in C++ of a program with the words `--width PART -s SECONDS -q -c CERT FILE`, which g++ makes in a
 folder that is removed. HiGHS is called where SciPy is there, as in Debian's python3 beside python3-scipy: `linprog`
 alone, by both of its methods, of which the faster one counts; its width is that of its own plans, in doubles, which are
-no certificate. A dash stands where nothing was there, or the width wasn't reached in the seconds or the rounds.
+no certificate. The third table has no times: after how many rounds each first has a width, of `xg_close` those of both
+lanes together, each as both players' learning once. A dash stands where nothing was there, or the width wasn't reached
+in the seconds or the rounds. With --table one table alone is printed.
 """
 import os
 import pathlib
@@ -39,7 +41,7 @@ CLOSE = ROOT / "crates" / "xg_close" / "out" / "xg_close"
 PARTS = (Fraction(1, 10**3), Fraction(1, 10**6), Fraction(1, 10**9))
 LEAST_WIDTH, MOST_ROUNDS = f"1/{2**62}", {"solve": 65_536, "plus": 2_048}
 PLAIN_ROUNDS, EVERY = 1_000, 10
-LINE = re.compile(rb"xg_close: (\d+) rounds, width \S+ of \S+, low \S+, high \S+\n")
+LINE = re.compile(rb"xg_close: (\d+) rounds, width .*\n")
 # What is asked: of the time beside the other program, and of the width beside that of `solve`.
 MOST_RATIO, LEAST_GAIN, GAINS = Fraction(13, 10), 20, Fraction(9, 10)
 # How many runs there are where one takes over a second.
@@ -126,6 +128,14 @@ class Bench:
         if rounds is None:
             return None
         return self.best(self.words_of(game, command, rounds), lambda ended: ended.status == 0)
+
+    def rounds_of_close(self, game, part):
+        """The rounds after which `xg_close` has a width, 0 where it plays none, or None."""
+        width = game.span * part
+        asked = [f"--width={width}"] if width else []
+        ended = Ended([self.given.close, game.path, *asked, "--rounds=4194304"], self.given.seconds)
+        rounds = [int(it) for it in LINE.findall(ended.said)]
+        return max(rounds, default=0) if ended.status == 0 else None
 
     def by_program(self, game):
         """The seconds and the width of the faster method of the linear program."""
@@ -215,6 +225,17 @@ def widths(bench, chosen):
     return gains
 
 
+def rounds(bench, chosen):
+    """The third table: rounds to widths."""
+    ours = [f"`xg_close`, {told(part, '{:.0e}')}" for part in PARTS]
+    head("Game", "Nodes", *ours, "`solve`, 1e-03", "`plus`, 1e-03")
+    for game in chosen():
+        width = game.span * PARTS[0]
+        found = [bench.rounds_of_close(game, part) for part in PARTS]
+        found += [bench.rounds_to(game, it, [width]).get(width) for it in MOST_ROUNDS]
+        row(game.name, f"{game.nodes:,}", *("-" if it is None else f"{it:,}" for it in found))
+
+
 def judge(ratios, gains):
     """Compares what was measured with what is asked; the status."""
     slow = [it for it in ratios if it is None or it > MOST_RATIO]
@@ -239,6 +260,7 @@ def options():
     parser.add_argument("--runs", metavar="N", type=int, default=5, help="so many runs of each call (5)")
     parser.add_argument("--seconds", metavar="S", type=float, default=60, help="the most seconds of a call (60)")
     parser.add_argument("--only", metavar="WORD", default="", help="only the games whose name has this")
+    parser.add_argument("--table", choices=("times", "widths", "rounds"), help="print this table alone")
     parser.add_argument("--most-nodes", metavar="N", type=int, default=1_048_576, help="no games of more nodes")
     return parser.parse_intermixed_args()
 
@@ -258,11 +280,12 @@ def main():
                     if game.nodes <= given.most_nodes:
                         yield game
 
-        ratios = times(bench, chosen)
-        print()
-        gains = widths(bench, chosen)
-        print()
-        return judge(ratios, gains)
+        found = {}
+        for table in (times, widths, rounds):
+            if given.table in (None, table.__name__):
+                found[table] = table(bench, chosen)
+                print()
+        return judge(found[times], found[widths]) if given.table is None else 0
 
 
 if __name__ == "__main__":
