@@ -24,6 +24,7 @@ LINE = re.compile(
 )
 # So many digits of a width are said, behind so many places at the most.
 DIGITS, PLACES = 3, 18
+NEARLY = Fraction(1, 10**6)
 
 
 def payoff_span(data):
@@ -77,7 +78,7 @@ class Closing:
         if "--quiet" in words:
             self.checks.expect(f"{what}: nothing is said", (told[2],), b"")
         else:
-            self.progress(what, answer, wanted, rounds)
+            self.progress(what, answer, wanted, rounds, is_given=bool(width))
         return answer
 
     def narrow(self, what, answer, width):
@@ -102,8 +103,9 @@ class Closing:
         bracket = f"accepted {answer.text.low} {answer.text.high}"
         expect_both(self.checks, f"{what}: checked", self.game, self.certificate, bracket)
 
-    def progress(self, what, answer, width, rounds):
-        """Each line is true of the bracket then, which never widens, and the last one is on the bracket that is printed."""
+    def progress(self, what, answer, width, rounds, is_given=True):
+        """Each line is true of the bracket then, which never widens, and the last one is on the bracket that is printed. The
+        width that is given is said exactly, and another one nearly."""
         said = answer.said.decode()
         lines = LINE.findall(said)
         whole = "".join(match[0] for match in LINE.finditer(said)) == said
@@ -118,7 +120,9 @@ class Closing:
         self.checks.that(f"{what}: the last line", brackets[-2:] == [last] * len(brackets[-2:]), f"{brackets[-2:]}")
         for line, (low, high), (later_low, later_high) in zip(lines, brackets, brackets[1:]):
             closes = low <= later_low and later_high <= high and width < high - low or (low, high) == last
-            holds = line[1] == rounded_up(high - low) and Fraction(line[2]) == width
+            asked = Fraction(line[2])
+            is_asked = asked == width or not is_given and abs(asked - width) < width * NEARLY
+            holds = line[1] == rounded_up(high - low) and is_asked
             self.checks.that(f"{what}: a line of progress", holds and closes, line)
 
     def certified(self, what, answer):

@@ -360,7 +360,7 @@ def close_case(soak, chance):
     wanted = payoff_span(data) / USUAL_PART if width is None else certificate.Fraction(width)
     closing.narrow("xg_close", answer, wanted)
     closing.laid_out("xg_close", answer)
-    closing.progress("xg_close", answer, wanted, rounds)
+    closing.progress("xg_close", answer, wanted, rounds, is_given=width is not None)
     closed_bracket(soak, chance, file, data, told.out)
 
 
