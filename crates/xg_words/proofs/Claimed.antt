@@ -17,7 +17,7 @@ claimed_complete jobs rows amount worker n earlier are past m ms is is_job =
     head (x ∷ xs) = x
 
 -- a worker that claimed nothing is ready
-pub new_is_ready : (table : TableId) (jobs rows : ℕ) (amount : ℕ → ℕ → ℤ) (room : ℕ) (worker : WorkerClaims) (packet : Listed) → worker.table ≡ table → worker.numbers ≡ [] → room ≤ packet.room → IsReadyToClaim table jobs rows amount room worker packet
+pub new_is_ready : (table : TableId) (jobs rows : ℕ) (amount : ℕ → ℕ → ℤ) (room : ℕ) (worker : WorkerClaims) (packet : Listed) → worker.table ≡ table → worker.numbers ≡ [] → room ≡ packet.room → IsReadyToClaim table jobs rows amount room worker packet
 new_is_ready table jobs rows amount room worker packet here none room_is = record {
   here = here;
   below = subst (All (λ n. n < jobs)) (sym none) (All-nil (λ n. n < jobs));

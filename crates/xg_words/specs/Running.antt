@@ -13,13 +13,13 @@ abbrev pub HasSmallSums : SequenceForm → List ℕ → List ℕ → Type 0
 HasSmallSums form numbers_one numbers_two =
     mass_of form.leaves * max (greatest_of numbers_one) (greatest_of numbers_two) < past_sizes
 
--- the worker can claim, and the packet has the room
+-- the worker can claim, and the packet has just the room
 pub record IsReadyToClaim (table : TableId) (jobs rows : ℕ) (amount : ℕ → ℕ → ℤ) (room : ℕ) (worker : WorkerClaims)
     (packet : Listed) : Type 0 where
   pub here : worker.table ≡ table
   pub below : All (λ n. n < jobs) worker.numbers
   pub complete : LastIsComplete jobs rows amount worker.reached worker.numbers
-  pub has_room : room ≤ packet.room
+  pub has_room : room ≡ packet.room
 
 -- the worker's last number is no job's
 pub record IsDoneClaiming (table : TableId) (jobs rows : ℕ) (amount : ℕ → ℕ → ℤ) (worker : WorkerClaims) : Type 0 where
