@@ -11,4 +11,5 @@ returns-clause-text g c =
     let before = g.O.Sink.written c.args.out.now in
     let now = g.O.Sink.written c.put_last_digits.new.out in
     subst (λ (text : List ℕ). Writes before now text c.put_last_digits.result) (sym (with_point c.args.places c.args.number (omega arith)))
-    (then_rest before (g.O.Sink.written c.write_all.new.sink) now (point ∷ []) (last_digits c.args.places c.args.number) c.put_last_digits.result c.in_ok-write_all.ensures.appended c.put_last_digits.ensures.text)
+    (then_rest before (g.O.Sink.written c.write_all.new.sink) now (point ∷ []) (last_digits c.args.places c.args.number)
+    c.put_last_digits.result c.in_ok-write_all.ensures.appended c.put_last_digits.ensures.text)
