@@ -12,13 +12,14 @@ use Rattle.def_game_paths.specs.Coming.{visit_after}
 use Rattle.def_game_paths.specs.Paths.{Visit, visits}
 use Rattle.def_game_paths.proofs.Coming.{IsNext, length-visits, next_node, next_visit}
 use Rattle.def_game_scale.specs.Tables.{Tables, AreFractions, first_sum, game_sum, paid_together, payoff_one, payoff_two, reach}
+use Rattle.def_payoffs.specs.Range.{leaf_payoffs}
 use Rattle.def_game_scale.specs.Scale.{all_expected, expected, expected_at, game_unit, sum_so_far, unit_so_far}
 use Rattle.def_game_scale.proofs.Running.{running}
 use Rattle.def_game_scale.proofs.Units.{unit-positive}
 use Rattle.def_game_scale.proofs.Expected.{expected-lowest, first-lowest}
 use Rattle.def_game_scale.specs.Faults.{GameFault, NotConstantSum, Scale, is_same, leaf_fault, node_fault, number_after, passing}
-use Rattle.xg_scale.specs.Leaf.{judged_leaf, judged_node, known_with, sum_from_first, unit_with, with_expected}
-use Rattle.xg_scale.specs.Walked.{all_fit, known_sum, numbers_on_path, sum_of_first}
+use Rattle.xg_scale.specs.Leaf.{judged_leaf, judged_node, known_with, sum_from_first, unit_with, with_expected, with_payoff}
+use Rattle.xg_scale.specs.Walked.{all_fit, known_sum, numbers_on_path, payoffs_at, sum_of_first}
 use Rattle.xg_scale.proofs.FoundLemmas.{number_next}
 
 -- the leaves among some nodes and one more node
@@ -33,6 +34,24 @@ expected_more tables before v =
     last : (b : Bool) → map (expected tables) (cond b (v ∷ []) []) ≡ cond b (expected tables v ∷ []) []
     last true = refl
     last false = refl
+
+-- what the leaves among some nodes pay player one, and one more node
+pub payoffs_more : (tables : Tables) (before : List Visit) (v : Visit)
+    → payoffs_at tables (before ++ v ∷ [])
+    ≡ payoffs_at tables before ++ cond (is_leaf_kind v.node.kind) (payoff_one tables v ∷ []) []
+payoffs_more tables before v =
+    ap (map (payoff_one tables)) (filter-append (λ (w : Visit). is_leaf_kind w.node.kind) before (v ∷ []))
+    ∙ map-append (payoff_one tables) (filter (λ (w : Visit). is_leaf_kind w.node.kind) before) (filter (λ (w : Visit). is_leaf_kind w.node.kind) (v ∷ []))
+    ∙ ap (λ xs. payoffs_at tables before ++ xs) (last (is_leaf_kind v.node.kind))
+  where
+    last : (b : Bool) → map (payoff_one tables) (cond b (v ∷ []) []) ≡ cond b (payoff_one tables v ∷ []) []
+    last true = refl
+    last false = refl
+
+-- all payoffs are those among all nodes
+pub payoffs_all : (tables : Tables) (tree : Forest) (k : ℕ) → k ≡ node_count tree
+    → payoffs_at tables (take k (visits tree)) ≡ leaf_payoffs tables tree
+payoffs_all tables tree k last = ap (payoffs_at tables) (take_all k (visits tree) (omega (arith, length-visits tree)))
 
 -- all expected are those among all nodes
 pub expected_all : (tables : Tables) (tree : Forest) (k : ℕ) → k ≡ node_count tree
@@ -180,3 +199,8 @@ module _ (tables : Tables) (lowest : AreFractions tables) (tree : Forest) (game 
   pub expected_with : expected_at tables (take (n + 1) (visits tree))
       ≡ expected_at tables before ++ with_expected x (numbers_on_path tables v)
   expected_with = ap (expected_at tables) next.taken ∙ expected_more tables before v ∙ ap (λ b. expected_at tables before ++ cond b (expected tables v ∷ []) []) is_leaf
+
+  -- what one more node pays player one
+  pub payoffs_with : payoffs_at tables (take (n + 1) (visits tree))
+      ≡ payoffs_at tables before ++ with_payoff x (numbers_on_path tables v)
+  payoffs_with = ap (payoffs_at tables) next.taken ∙ payoffs_more tables before v ∙ ap (λ b. payoffs_at tables before ++ cond b (payoff_one tables v ∷ []) []) is_leaf

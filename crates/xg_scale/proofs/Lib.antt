@@ -7,3 +7,5 @@ pub mod PathLemmas
 pub mod SumLemmas
 pub mod WeighLemmas
 pub mod WordLemmas
+pub mod RangeLemmas
+pub mod RangeFaults

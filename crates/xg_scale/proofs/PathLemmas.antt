@@ -29,12 +29,13 @@ use Rattle.xg_scale.specs.declared.nodes.PathVisitor.{PathVisitor}
 use Rattle.xg_scale.specs.declared.nodes.PathWalk.{PathWalk}
 use Rattle.xg_scale.specs.declared.path.NodeOnPath.{NodeOnPath}
 use Rattle.xg_scale.specs.FaultOfFile.{RefusesBy}
-use Rattle.xg_scale.specs.Leaf.{judged_node, known_with, unit_with, with_expected}
+use Rattle.xg_scale.specs.Leaf.{judged_node, known_with, unit_with, with_expected, with_payoff}
+use Rattle.xg_scale.specs.Range.{IsRangeOf}
 use Rattle.xg_scale.specs.OnPath.{GoesBackTo, HasNodeAround, at_action, chance_set_of, entered_node, empty_path}
-use Rattle.xg_scale.specs.Walked.{Enters, HasEntered, HasLeft, IsBefore, IsExpectedOf, Leaves, MayCome, MayComeNext, MayEnter, MayLeave, all_fit, known_sum, next_fault, numbers_at_next, numbers_below, numbers_on_path, reach_below}
+use Rattle.xg_scale.specs.Walked.{Enters, HasEntered, HasLeft, IsBefore, IsExpectedOf, Leaves, MayCome, MayComeNext, MayEnter, MayLeave, all_fit, known_sum, next_fault, numbers_at_next, numbers_below, numbers_on_path, payoffs_at, reach_below}
 use Rattle.xg_scale.proofs.FoundLemmas.{found_later, found_none, refuses_here}
 use Rattle.xg_scale.proofs.GameLemmas.{goes_with, in_chance_set, tree_rules}
-use Rattle.xg_scale.proofs.JudgeLemmas.{expected_all, expected_with, known_all, known_more, node_judged, unit_all, unit_from_one, unit_more}
+use Rattle.xg_scale.proofs.JudgeLemmas.{expected_all, expected_with, known_all, known_more, node_judged, payoffs_all, payoffs_with, unit_all, unit_from_one, unit_more}
 use Rattle.xg_tree.proofs.BelowLemmas.{KeepsPlaces, walked}
 use Rattle.xg_tree.proofs.StoppedLemmas.{OrStopped, may_step, stepped}
 use Rattle.xg_tree.proofs.VisitorLemmas.{RunsTo}
@@ -81,6 +82,7 @@ module _ (game : GameFile) (lowest : AreFractions (tables_of game)) (whole : IsW
     unit : expected.unit ≡ unit_so_far tables (take n all)
     limit : expected.unit ≤ most
     fractions : expected.fractions.items ≡ expected_at tables (take n all)
+    range : IsRangeOf (payoffs_at tables (take n all)) expected.range
 
   record GoesOn (n : ℕ) (innermost : NodeOnPath) (outer : List NodeOnPath) (walk : PathWalk) : Type 0 where
     passed : HasPassed n walk.expected
@@ -245,6 +247,9 @@ module _ (game : GameFile) (lowest : AreFractions (tables_of game)) (whole : IsW
           unit = entered.unit ∙ (λ i. unit_with x (on.passed.sum i) (on.passed.unit i) (numbers_at_visit i)) ∙ sym (unit_more tables lowest game.tree rules n there x read);
           limit = entered.limit;
           fractions = entered.fractions ∙ (λ i. on.passed.fractions i ++ with_expected x (numbers_at_visit i)) ∙ sym (expected_with tables lowest game.tree rules n there x read);
+          range = subst (λ payoffs. IsRangeOf payoffs new.expected.range)
+              (ap (λ numbers. payoffs_at tables (take n all) ++ with_payoff x numbers) numbers_at_visit ∙ sym (payoffs_with tables lowest game.tree rules n there x read))
+              (entered.range (payoffs_at tables (take n all)) on.passed.range);
         };
         innermost_is = entered.innermost ∙ ap (entered_node x) numbers_are;
         outer_is = entered.outer ∙ (λ i. on.innermost_is i ∷ on.outer_is i);
@@ -321,7 +326,7 @@ module _ (game : GameFile) (lowest : AreFractions (tables_of game)) (whole : IsW
   stands_first visitor before = record {
     game_is = before.game_is;
     stands = subst (λ o. OrRefused o (GoesOn 0 empty_path [] visitor.walk)) (sym before.going) (record {
-      passed = record { rest = refl; sum = before.sum; unit = before.unit ∙ sym (running tables lowest).start_unit; limit = omega (arith, before.unit); fractions = before.fractions };
+      passed = record { rest = refl; sum = before.sum; unit = before.unit ∙ sym (running tables lowest).start_unit; limit = omega (arith, before.unit); fractions = before.fractions; range = subst (IsRangeOf []) (sym before.range) refl };
       innermost_is = before.innermost;
       outer_is = before.outer;
     });
@@ -335,6 +340,7 @@ module _ (game : GameFile) (lowest : AreFractions (tables_of game)) (whole : IsW
     unit = passed.unit ∙ unit_all tables game.tree n last;
     limit = passed.limit;
     fractions = passed.fractions ∙ expected_all tables game.tree n last;
+    range = subst (λ payoffs. IsRangeOf payoffs expected.range) (payoffs_all tables game.tree n last) passed.range;
   }
 
   ended : (n : ℕ) (innermost : NodeOnPath) (outer : List NodeOnPath) (walk : PathWalk) (refused : Option Refused)

@@ -1,11 +1,13 @@
 -- What is judged of a leaf by the numbers of its path.
-use Rattle.std.specs.Prelude.{ℕ, if◌then◌else◌, nat_le, List, [], ◌∷◌, Option, Some, None, unwrap_or}
+use Rattle.std.specs.Prelude.{ℕ, if◌then◌else◌, nat_le, List, [], ◌∷◌, ◌++◌, Option, Some, None, unwrap_or}
 use Rattle.def_tree.specs.declared.Node.{Node}
 use Rattle.def_tree.specs.Tree.{is_leaf_kind}
 use Rattle.def_fraction.specs.Divisors.{lcm}
 use Rattle.def_fraction.specs.Fraction.{Fraction, fits, most, product_of, sum_of}
 use Rattle.def_game_scale.specs.Faults.{GameFault, NotConstantSum, Scale, is_same, passing}
 use Rattle.xg_scale.specs.declared.path.PathNumbers.{PathNumbers}
+use Rattle.xg_scale.specs.declared.range.PayoffRange.{PayoffRange}
+use Rattle.xg_scale.specs.Range.{IsRangeOf}
 
 abbrev pub expected_by : PathNumbers → Fraction
 expected_by numbers = product_of numbers.reach numbers.one
@@ -45,3 +47,12 @@ unit_with node known unit numbers = if is_leaf_kind node.kind then leaf_unit kno
 -- what the node is expected to pay, if it is a leaf
 abbrev pub with_expected : Node → PathNumbers → List Fraction
 with_expected node numbers = if is_leaf_kind node.kind then expected_by numbers ∷ [] else []
+
+-- what the node pays player one, if it is a leaf
+abbrev pub with_payoff : Node → PathNumbers → List Fraction
+with_payoff node numbers = if is_leaf_kind node.kind then numbers.one ∷ [] else []
+
+-- a range of any payoffs takes in what the node pays
+abbrev pub TakesIn : Node → PathNumbers → Option PayoffRange → Option PayoffRange → Type 0
+TakesIn node numbers old new =
+    (payoffs : List Fraction) → IsRangeOf payoffs old → IsRangeOf (payoffs ++ with_payoff node numbers) new

@@ -1,5 +1,5 @@
 -- A walk that judges each node by the numbers of its path, and what it finds.
-use Rattle.std.specs.Prelude.{◌≡◌, ℕ, ◌-◌, ◌≤◌, Bool, ◌&&◌, if◌then◌else◌, [], ◌∷◌, ◌++◌, filter, length, List, Option, Some, None, unwrap_or}
+use Rattle.std.specs.Prelude.{◌≡◌, ℕ, ◌-◌, ◌≤◌, Bool, ◌&&◌, if◌then◌else◌, [], ◌∷◌, ◌++◌, filter, length, map, List, Option, Some, None, unwrap_or}
 use Rattle.def_tree.specs.declared.Node.{Node}
 use Rattle.def_tree.specs.declared.Player.{Player}
 use Rattle.def_tree.specs.declared.Player.TheVariants.{One, Two}
@@ -12,8 +12,10 @@ use Rattle.def_game_scale.specs.Tables.{PayoffPair, Tables, game_sum, paid_toget
 use Rattle.def_game_scale.specs.Scale.{all_expected, game_unit}
 use Rattle.def_game_scale.specs.Faults.{GameFault, Scale, found_by, node_fault}
 use Rattle.def_game_numbers.specs.Numbers.{tables_of}
+use Rattle.def_payoffs.specs.Range.{leaf_payoffs}
 use Rattle.xg_scale.specs.FaultOfFile.{RefusesBy}
-use Rattle.xg_scale.specs.Leaf.{judged_node, known_with, unit_with, with_expected}
+use Rattle.xg_scale.specs.Leaf.{TakesIn, judged_node, known_with, unit_with, with_expected}
+use Rattle.xg_scale.specs.Range.{IsRangeOf}
 use Rattle.xg_scale.specs.OnPath.{GoesBackTo, HasNodeAround, entered_node, empty_path}
 use Rattle.xg_scale.specs.declared.leaf.Expected.{Expected}
 use Rattle.xg_scale.specs.declared.nodes.PathVisitor.{PathVisitor}
@@ -34,6 +36,10 @@ sum_of_first tables (leaf ∷ _) = Some (paid_together tables leaf)
 -- the same of the first leaf among some nodes
 abbrev pub known_sum : Tables → List Visit → Option Fraction
 known_sum tables nodes = sum_of_first tables (filter (λ (v : Visit). is_leaf_kind v.node.kind) nodes)
+
+-- what the leaves among some nodes pay player one
+abbrev pub payoffs_at : Tables → List Visit → List Fraction
+payoffs_at tables nodes = map (payoff_one tables) (filter (λ (v : Visit). is_leaf_kind v.node.kind) nodes)
 
 -- the numbers of a path to a node
 abbrev pub numbers_on_path : Tables → Visit → PathNumbers
@@ -83,6 +89,7 @@ pub record HasEntered (old : PathWalk) (k : ℕ) (node : Node) (new : PathWalk) 
   pub unit : new.expected.unit ≡ unit_with node old.expected.sum old.expected.unit (numbers_at_next old node)
   pub limit : new.expected.unit ≤ most
   pub fractions : new.expected.fractions.items ≡ old.expected.fractions.items ++ with_expected node (numbers_at_next old node)
+  pub range : TakesIn node (numbers_at_next old node) old.expected.range new.expected.range
   pub innermost : new.innermost ≡ entered_node node (numbers_at_next old node)
   pub outer : new.outer ≡ old.innermost ∷ old.outer
 
@@ -113,11 +120,13 @@ pub record IsBefore (game : GameFile) (visitor : PathVisitor) : Type 0 where
   pub sum : visitor.walk.expected.sum ≡ None
   pub unit : visitor.walk.expected.unit ≡ 1
   pub fractions : visitor.walk.expected.fractions.items ≡ []
+  pub range : visitor.walk.expected.range ≡ None
 
--- no node has a fault, and this is what all leaves are expected to pay, with their sum and their unit
+-- no node has a fault, and this is what all leaves are expected to pay, with their sum, their unit and their range
 pub record IsExpectedOf (tables : Tables) (tree : Forest) (found : Expected) : Type 0 where
   pub passes : found_by (node_fault tables) [] (visits tree) ≡ None
   pub sum : unwrap_or found.sum zero_fraction ≡ game_sum tables tree
   pub unit : found.unit ≡ game_unit tables tree
   pub limit : found.unit ≤ most
   pub fractions : found.fractions.items ≡ all_expected tables tree
+  pub range : IsRangeOf (leaf_payoffs tables tree) found.range

@@ -4,22 +4,24 @@ ghost use Rattle.def_fraction.specs.Divisors.{lcm};
 ghost use Rattle.def_fraction.specs.Fraction.{fits, most, product_of, sum_of};
 ghost use Rattle.def_game_scale.specs.Faults as faults;
 ghost use Rattle.xg_scale.specs.FaultOfFile.{IsFaultOf, RefusesBy};
-ghost use Rattle.xg_scale.specs.Leaf.{judged_leaf, judged_node, known_with, leaf_unit, sum_from_first, unit_with, with_expected};
+ghost use Rattle.xg_scale.specs.Leaf.{TakesIn, judged_leaf, judged_node, known_with, leaf_unit, sum_from_first, unit_with, with_expected};
 
 use crate::parts::{denominator, known};
 use crate::path::PathNumbers;
+use crate::range::{PayoffRange, range_with};
 use std::alloc::Global;
 use xg_frac::{Frac, OverLimit, add, lcm, mul, zero};
 use xg_game::{FileFault, Refused};
 use xg_tree::{Node, is_leaf};
 
 /// Of the leaves so far: what each pays both players together, which the first one tells; reach times player one's
-/// payoff at each; and the unit that makes all of this whole.
+/// payoff at each; the unit that makes all of this whole; and the range of player one's payoffs.
 #[derive(Drop)]
 pub(crate) struct Expected {
     pub(crate) sum: Option<Frac>,
     pub(crate) unit: u64,
     pub(crate) fractions: Vec<Frac>,
+    pub(crate) range: Option<PayoffRange>,
 }
 
 impl Expected {
@@ -34,6 +36,7 @@ impl Expected {
         ensures limit { OnOk result (self.new.unit ≤ most) }
         ensures fractions { OnOk result
             (self.new.fractions.items ≡ self.old.fractions.items ++ with_expected node numbers.now) }
+        ensures range { OnOk result (TakesIn node numbers.now self.old.range self.new.range) }
         ensures err { IfErr result (RefusesBy (judged_node k node self.old.sum self.old.unit numbers.now)) }
     {
         if !is_leaf(node) {
@@ -45,6 +48,7 @@ impl Expected {
         };
         self.sum = Some(leaf.sum);
         self.unit = leaf.unit;
+        self.range = Some(range_with(self.range, numbers.one));
         Ok(())
     }
 }

@@ -6,9 +6,11 @@ mod leaf;
 mod nodes;
 mod parts;
 mod path;
+mod range;
 mod weighing;
 mod weights;
 
-pub use weighing::weigh;
+pub use range::PayoffRange;
+pub use weighing::{payoff_range, weigh};
 pub use weights::Weights;
 pub use xg_game::{FileFault, Refused};

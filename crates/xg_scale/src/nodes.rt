@@ -17,7 +17,7 @@ use xg_frac::{Frac, OverLimit, add, mul};
 use xg_game::{FileFault, Game, Kind, Player, Refused};
 use xg_tree::{Ancestors, Node, Visitor};
 
-/// What each leaf is expected to pay, what it pays both players together, and the unit.
+/// What each leaf is expected to pay, what it pays both players together, the unit, and the range of the payoffs.
 pub(crate) fn expect(alloc: Global, game: &Game) -> Result<Expected, Refused>
     requires { AreFractions (tables_of game.now) }
     ensures ok { IfOk result (IsExpectedOf (tables_of game.now) game.now.tree) }
@@ -53,6 +53,7 @@ impl<'a> PathVisitor<'a> {
                 sum: None,
                 unit: 1,
                 fractions,
+                range: None,
             },
         };
         Ok(PathVisitor {

@@ -1,11 +1,14 @@
 //! The weighing of a game.
-ghost use Rattle.std.specs.Prelude.{◌≡◌, Err, IfOk, Ok, OnOk, length};
+ghost use Rattle.std.specs.Prelude.{◌≡◌, [], Err, IfErr, IfOk, Ok, OnOk, length};
 ghost use Rattle.std.specs.List.{AllZip};
 ghost use Rattle.def_file.specs.declared.FileFault.{FileFault};
 ghost use Rattle.def_game_scale.specs.FaultLaws.{HasSoundNumbers};
 ghost use Rattle.def_game_numbers.specs.Laws.{AreWeights};
 ghost use Rattle.def_game_numbers.specs.Numbers.{GameWeights, tables_of, weigh};
-ghost use Rattle.def_game_paths.specs.Paths.{leaf_visits};
+ghost use Rattle.def_game_paths.specs.Paths.{leaf_visits, visits};
+ghost use Rattle.def_game_scale.specs.Faults.{found_by, node_fault};
+ghost use Rattle.def_payoffs.specs.Range.{IsPayoffRange};
+ghost use Rattle.xg_scale.specs.FaultOfFile.{RefusesBy};
 ghost use Rattle.def_game_scale.specs.Laws.{IsWeightOf};
 ghost use Rattle.def_game_scale.specs.Tables.{AreFractions};
 ghost use Rattle.def_tree.specs.Tree.{leaf_count, prefix};
@@ -14,6 +17,7 @@ ghost use Rattle.xg_scale.specs.Words.{HasNoNumberFault, IsCommonMultiple, IsFir
 
 use crate::chance::{SetTest, check_sets};
 use crate::nodes::expect;
+use crate::range::PayoffRange;
 use crate::weights::{Weights, check_whole_sum, weigh_leaves};
 use std::alloc::Global;
 use xg_game::{Game, Refused};
@@ -46,6 +50,34 @@ pub fn weigh(alloc: Global, game: &Game) -> Result<Weights, Refused>
     ensures count { IfOk result (λ weights. length weights.leaves ≡ leaf_count (prefix game.now.tree)) }
 {
     weigh_exactly(alloc, game)
+}
+
+/// The least and the greatest of what the leaves of a game pay player one, by a walk over its nodes. A game with a
+/// fault may be refused by it.
+pub fn payoff_range(alloc: Global, game: &Game) -> Result<PayoffRange, Refused>
+    ensures range { IfOk result (λ range.
+        IsPayoffRange (tables_of game.now) game.now.tree range.least range.greatest) }
+    ensures refused { IfErr result (RefusesBy (found_by (node_fault (tables_of game.now)) [] (visits game.now.tree))) }
+    ensures faultless { HasNoNumberFault game.now → IfErr result (λ refused. refused ≡ Refused.NoMemory) }
+{
+    range_exactly(alloc, game)
+}
+
+fn range_exactly(alloc: Global, game: &Game) -> Result<PayoffRange, Refused>
+    ensures range { IfOk result (λ range.
+        IsPayoffRange (tables_of game.now) game.now.tree range.least range.greatest) }
+    ensures refused { IfErr result (RefusesBy (found_by (node_fault (tables_of game.now)) [] (visits game.now.tree))) }
+    ensures lowest { AreFractions (tables_of game.now) }
+{
+    game.numbers_are_in_lowest_terms();
+    let _tree = game.tree();
+    let expected = expect(alloc, game)?;
+    let range = expected.range;
+    drop(expected);
+    match range {
+        Some(range) => Ok(range),
+        None => unreachable!(),
+    }
 }
 
 fn weigh_exactly(alloc: Global, game: &Game) -> Result<Weights, Refused>

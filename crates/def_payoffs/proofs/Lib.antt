@@ -1,0 +1,3 @@
+pub mod HasLeaf
+pub mod OneValue
+pub mod RowRange
