@@ -34,7 +34,7 @@ impl<'a> Model for FieldReader<'a> {
 }
 
 /// A number, and whether its line ends behind it.
-#[derive(Clone, Copy, Debug, PartialEq, Eq)]
+#[derive(Clone, Copy)]
 pub struct EndedNumber {
     pub number: u64,
     pub last: bool,
@@ -82,8 +82,7 @@ impl<'a> FieldReader<'a> {
         if field != wanted {
             return Err(CertFault::CertSyntax { at });
         }
-        self.left = left;
-        self.separator(separator)
+        self.behind((), left, separator)
     }
 
     /// The text's version, and its line feed.
@@ -100,9 +99,7 @@ impl<'a> FieldReader<'a> {
         let Some(version) = version_in(field) else {
             return Err(CertFault::CertVersion);
         };
-        self.left = left;
-        self.separator(b'\n')?;
-        Ok(version)
+        self.behind(version, left, b'\n')
     }
 
     /// A number that is known, by its digits.
@@ -120,8 +117,7 @@ impl<'a> FieldReader<'a> {
         if field != wanted {
             return Err(CertFault::CertNumber { at });
         }
-        self.left = left;
-        self.separator(separator)
+        self.behind((), left, separator)
     }
 
     /// A whole number of a range.
@@ -140,9 +136,7 @@ impl<'a> FieldReader<'a> {
         let Some(n) = whole_in(low as u128, high as u128, field) else {
             return Err(CertFault::CertNumber { at });
         };
-        self.left = left;
-        self.separator(separator)?;
-        Ok(n as u64)
+        self.behind(n as u64, left, separator)
     }
 
     /// A number of at most 2^100 in size, with a sign where it is below 0.
@@ -160,9 +154,7 @@ impl<'a> FieldReader<'a> {
         let Some(n) = integer_in(field) else {
             return Err(CertFault::CertNumber { at });
         };
-        self.left = left;
-        self.separator(separator)?;
-        Ok(n)
+        self.behind(n, left, separator)
     }
 
     /// A fraction in lowest terms whose parts are at most 2^100 in size.
@@ -180,9 +172,7 @@ impl<'a> FieldReader<'a> {
         let Some(fraction) = fraction_in(field) else {
             return Err(CertFault::CertNumber { at });
         };
-        self.left = left;
-        self.separator(separator)?;
-        Ok(fraction)
+        self.behind(fraction, left, separator)
     }
 
     /// A fraction in lowest terms whose parts are at most 2^62 in size.
@@ -223,9 +213,7 @@ impl<'a> FieldReader<'a> {
         let Some(fraction) = read else {
             return Err(CertFault::CertNumber { at });
         };
-        self.left = left;
-        self.separator(separator)?;
-        Ok(fraction)
+        self.behind(fraction, left, separator)
     }
 
     /// A whole number of a range, with a space or a line feed behind it.
@@ -262,20 +250,21 @@ impl<'a> FieldReader<'a> {
         Ok(())
     }
 
-    fn separator(&mut self, separator: u8) -> Result<(), CertFault>
-        ensures exact { GivesValue (λ _. tt) result self.new.left
-            (separated_by separator self.old.total (tt {0}) self.old.left) }
+    /// A value that was read, where its separator is the first byte of what is left.
+    fn behind<T: Copy>(&mut self, value: T, left: &'a [u8], separator: u8) -> Result<T, CertFault>
+        requires { length left.now ≤ self.old.total }
+        ensures exact { GivesValue (λ v. v) result self.new.left (separated_by separator self.old.total value left.now) }
         ensures total { self.new.total ≡ self.old.total }
     {
-        let [first, left @ ..] = self.left else {
+        let [first, rest @ ..] = left else {
             return Err(CertFault::CertShort);
         };
         if *first != separator {
             return Err(CertFault::CertSyntax {
-                at: self.total - self.left.len(),
+                at: self.total - left.len(),
             });
         }
-        self.left = left;
-        Ok(())
+        self.left = rest;
+        Ok(value)
     }
 }
