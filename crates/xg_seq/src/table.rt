@@ -6,7 +6,7 @@ ghost use Rattle.xg_seq.specs.Table.{EndsAt, HaveFewActions, KeepsSets, most_seq
 use std::marker::Model;
 
 /// A set in its place: the first sequence that ends at it, its player's sequence before it, and how many actions it has.
-#[derive(Clone, Copy, Debug, PartialEq, Eq)]
+#[derive(Clone, Copy)]
 pub struct SetPlace {
     pub first: u32,
     pub before: u32,
