@@ -5,7 +5,7 @@ use xg_frac::Frac;
 /// A game's numbers, and what was asked of a run.
 ///
 /// A pair is one number for each player, player one's first. The sequences count the empty one.
-#[derive(Clone, Copy, Debug, PartialEq, Eq)]
+#[derive(Clone, Copy)]
 pub struct Head {
     pub nodes: u32,
     pub leaves: u32,
