@@ -25,7 +25,7 @@ pub(crate) fn reply_at(values: &[i128], choices: &[u32], k: usize) -> SetReply
 
 /// What is printed of an end of the bracket: the reply's total, that of the last trace line, and the bound, which is
 /// the total over the scale.
-#[derive(Clone, Copy, Debug)]
+#[derive(Clone, Copy)]
 pub struct PrintedEnd {
     pub total: i128,
     pub traced: i128,

@@ -3,7 +3,7 @@
 use crate::plain::PlainWords;
 
 /// How a game is solved.
-#[derive(Clone, Copy, Debug, PartialEq, Eq)]
+#[derive(Clone, Copy, PartialEq, Eq)]
 pub struct WordSettings {
     /// The rounds that are played, at most 65,536.
     pub rounds: u32,
@@ -14,7 +14,7 @@ pub struct WordSettings {
 }
 
 /// The rows that the workers of a run add into.
-#[derive(Clone, Copy, Debug, PartialEq, Eq)]
+#[derive(Clone, Copy, PartialEq, Eq)]
 pub struct RowWords {
     /// The number of workers, from 1 to 64, where one is given.
     pub workers: Option<u32>,
@@ -23,7 +23,7 @@ pub struct RowWords {
 }
 
 /// The command that the words name. The names of files are as they were written.
-#[derive(Debug, PartialEq, Eq, Drop)]
+#[derive(PartialEq, Eq, Drop)]
 pub enum Command<'a> {
     /// The game of a file is solved.
     Solve {

@@ -10,7 +10,7 @@ use def_plus::{MOST_PLUS_ROUNDS, MOST_PLUS_SCALE};
 use def_sums::{MOST_ROUNDS, MOST_SCALE, MOST_WORKERS};
 
 /// A command by its word.
-#[derive(Clone, Copy, Debug, PartialEq, Eq)]
+#[derive(Clone, Copy)]
 pub(crate) enum CommandName {
     Solve,
     Check,
@@ -23,7 +23,7 @@ pub(crate) enum CommandName {
 }
 
 /// An option by its name.
-#[derive(Clone, Copy, Debug, PartialEq, Eq)]
+#[derive(Clone, Copy)]
 pub(crate) enum OptionName {
     Rounds,
     Every,

@@ -15,7 +15,7 @@ use xg_frac::read_whole;
 const DEFAULT_ROUNDS: u32 = 1000;
 
 /// The numbers of the options that were given so far.
-#[derive(Clone, Copy, Debug, PartialEq, Eq)]
+#[derive(Clone, Copy)]
 pub(crate) struct Options {
     rounds: Option<u32>,
     every: Option<u32>,
