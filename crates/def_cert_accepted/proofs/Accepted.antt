@@ -14,7 +14,6 @@ use Rattle.def_reply.proofs.Optimal.{best-tight}
 use Rattle.def_round.specs.Rounds.{rounds}
 use Rattle.def_reply.specs.Bracket.{Evaluation, BracketEnds, ends_of, trace}
 use Rattle.def_reply.specs.declared.TraceLine.{TraceLine}
-use Rattle.def_reply.proofs.TraceLines.{trace_lines, never_widens}
 use Rattle.def_reply.specs.Outcome.{Head}
 use Rattle.def_run.specs.Run.{WeighedRun, SumsPlans, outcome, total_against, plain_run, evaluation, evaluations, evaluations_in, lower_plan_in, upper_plan_in}
 use Rattle.def_run.proofs.RunLaws.{evaluations_are_bounds, ends_are_of_their_rounds}

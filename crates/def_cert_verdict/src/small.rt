@@ -9,7 +9,7 @@ ghost use Rattle.def_cert_verdict.specs.declared.fault.Which.TheVariants.{Lower,
 ghost use Rattle.def_cert_verdict.specs.Laws.{with_bounds, without_bounds};
 ghost use Rattle.def_cert_verdict.specs.Verdict.{bracket, head_only, verdict};
 ghost use Rattle.def_fraction.specs.Fraction.{over, negative_of};
-ghost use Rattle.def_cert_verdict.specs.Changes.{changed, high_end, line, plan_one, reply_two, traced};
+ghost use Rattle.def_cert_verdict.specs.Changes.{high_end, line, plan_one, reply_two, traced};
 ghost use Rattle.def_cert_verdict.specs.Changes.{value_two, weights_one};
 ghost use Rattle.def_cert_verdict.specs.Kuhn.{kuhn_verdict};
 ghost use Rattle.def_cert_verdict.specs.OneMover.{one_mover_verdict};

@@ -1,7 +1,7 @@
 //! Worked rows of the definitions.
 #![tactic(auto, unfolding(crate::specs::Reading::read_as_literal, crate::specs::Reading::read_as_whole, crate::specs::Reading::literal_of, crate::specs::Reading::value_of, crate::specs::Reading::body_of, crate::specs::Reading::body_after, crate::specs::Reading::decimal_of, crate::specs::Reading::power_of, crate::specs::Fraction::fraction_of, crate::specs::Divisors::gcd))]
 
-ghost use Rattle.std.specs.Prelude.{◌≡◌, ◌∷◌, [], ◌++◌, map, codes, replicate, pos, negsuc, Ok, Err};
+ghost use Rattle.std.specs.Prelude.{◌≡◌, ◌∷◌, [], map, codes, replicate, pos, negsuc, Ok, Err};
 ghost use Rattle.def_fraction.specs.declared.fault.NumberFault.TheVariants.{Form, ZeroDenominator, Range};
 ghost use Rattle.def_fraction.specs.Fraction.{whole_number};
 ghost use Rattle.def_fraction.specs.Reading.{read_as_literal, read_as_whole};

@@ -1,5 +1,5 @@
 -- What is said of the certificate that words check.
-use Rattle.std.proofs.Common.{◌≡◌, ℕ, List, Option, Some, None, refl, sym, ap, ◌∙◌, subst}
+use Rattle.std.proofs.Common.{◌≡◌, ℕ, List, Option, Some, sym, ◌∙◌, subst}
 use Rattle.std.proofs.lemmas.Option.{same_Some}
 use Rattle.def_outside.specs.Calls.{SinkCall, Wrote}
 use Rattle.def_cert_verdict.specs.Verdict.{Verdict, shown_by}
@@ -9,7 +9,7 @@ use Rattle.def_cert_versions.specs.Verdict.{upgraded}
 use Rattle.def_command.specs.Grammar.{Check, Command, Upgrade, command_of_words}
 use Rattle.def_program.specs.Bounds.{BoundsHold}
 use Rattle.def_program.specs.CheckLines.{verdict_text}
-use Rattle.def_program.specs.Checked.{AreChecked, ForEachChecked, HoldsOfFile, checked_text}
+use Rattle.def_program.specs.Checked.{AreChecked, HoldsOfFile, checked_text}
 use Rattle.def_program_readings.specs.Checks.{ChecksAreRead, IsShown}
 
 -- a command's own text of a certificate that it accepts

@@ -1,8 +1,8 @@
 -- Counts, and lines that were said.
-use Rattle.std.proofs.Common.{◌≡◌, inl, inr, ℕ, List, ◌++◌, take, Option, Some, refl, sym, ap, ◌∙◌, arith}
+use Rattle.std.proofs.Common.{◌≡◌, inl, inr, ℕ, List, take, Some, sym, ap, ◌∙◌, arith}
 use Rattle.std.specs.Io.KnownBytes.{append_known}
 use Rattle.def_outside.specs.Calls.{Says, SinkCall, cut_off, in_whole}
-use Rattle.def_program_readings.specs.Counts.{CountsAreRead, IsFrontOf, IsSaid, OpensAreRead, SaidLinesAreRead}
+use Rattle.def_program_readings.specs.Counts.{CountsAreRead, IsSaid, OpensAreRead, SaidLinesAreRead}
 
 pub counts : CountsAreRead
 counts = record {

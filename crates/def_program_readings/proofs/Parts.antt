@@ -8,8 +8,7 @@ use Rattle.def_cert_versions.specs.Verdict.{in_version_two}
 use Rattle.def_check.specs.Accepted.{IsAccepted}
 use Rattle.def_plus.specs.declared.Variant.{Variant}
 use Rattle.def_plus.specs.declared.Variant.TheVariants.{Plain, Plus}
-use Rattle.def_command.specs.Grammar.{Settings, command_of_words}
-use Rattle.def_program.specs.BatchText.{file_line, parts_text}
+use Rattle.def_command.specs.Grammar.{Settings}
 use Rattle.def_program.specs.Bounds.{BoundsHold, IsPartOf, PlayedPart, WroteBounds, game_bounds, written_alone}
 use Rattle.def_program.specs.Text.{game_head, text_of_variant}
 use Rattle.def_program_readings.specs.Parts.{IsAlone, IsAmong, IsWritten, PartsAreOfTheirCommands, PartsAreRead}

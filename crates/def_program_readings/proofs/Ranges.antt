@@ -1,5 +1,5 @@
 -- Ranges in plain numbers.
-use Rattle.std.proofs.Common.{ℕ, refl}
+use Rattle.std.proofs.Common.{refl}
 use Rattle.def_program_readings.specs.Ranges.{RangesAreRead}
 
 pub ranges : RangesAreRead

@@ -1,8 +1,8 @@
 -- Counts of faults and of opened files, and lines that were said, in plain numbers.
 --     IsSaid sink line before    the line was said behind these bytes: all of it, or a front of it before one fault
-use Rattle.std.specs.Prelude.{◌≡◌, ◌↔◌, ◌⊎◌, ℕ, ◌+◌, ◌<◌, ◌≤◌, List, ◌++◌, length, take, Option, Some}
+use Rattle.std.specs.Prelude.{◌≡◌, ◌↔◌, ◌⊎◌, ℕ, ◌+◌, ◌<◌, ◌≤◌, List, ◌++◌, length, take, Some}
 use Rattle.def_outside.specs.Cause.{Rose, RoseByOne}
-use Rattle.def_outside.specs.Calls.{Faults, FilesCall, HasFailed, HasFailedOnce, HasNoFault, MayHaveFailed, OpensAtMost}
+use Rattle.def_outside.specs.Calls.{FilesCall, HasFailed, HasFailedOnce, HasNoFault, MayHaveFailed, OpensAtMost}
 use Rattle.def_outside.specs.Calls.{Says, SinkCall}
 
 -- below its last value a count rose where it is greater, and once where it is greater by one; at its last value it

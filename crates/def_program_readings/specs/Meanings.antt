@@ -1,5 +1,5 @@
 -- What is said of each answer that words mean.
-use Rattle.std.specs.Prelude.{◌≡◌, ◌↔◌, ◌⊎◌, ℕ, List, [], ◌∷◌, Contains, Option, Some, IsSome}
+use Rattle.std.specs.Prelude.{◌≡◌, ◌↔◌, ◌⊎◌, ℕ, List, [], ◌∷◌, Contains, Option, IsSome}
 use Rattle.def_command.specs.Grammar.{named_files}
 use Rattle.def_program.specs.Meaning.{EachMeant, EndsWith, FilesAreTold, Means, MeansOnly}
 use Rattle.def_program.specs.Program.{Answer}

@@ -1,5 +1,5 @@
 -- Ranges in plain numbers.
-use Rattle.std.specs.Prelude.{◌≡◌, ◌↔◌, ℕ, ◌≤◌, List, length, Option, Some, None}
+use Rattle.std.specs.Prelude.{◌≡◌, ◌↔◌, ℕ, ◌≤◌, List, length, Some, None}
 use Rattle.def_reply.specs.Offers.{most_divisor}
 use Rattle.def_command.specs.Grammar.{Settings}
 use Rattle.def_command.specs.GrammarLaws.{CardsInRange, FilesInRange, InPlusRange, InRange}

@@ -5,7 +5,7 @@ use Rattle.std.proofs.lemmas.List.Elements.{All-nil, All-cons}
 use Rattle.def_words.specs.declared.view.View.{View}
 use Rattle.def_words.specs.declared.view.View.TheVariants.{Owner, Worker, Spent}
 use Rattle.def_words.specs.Amounts.{LastIsComplete}
-use Rattle.def_words.specs.Steps.{AreWordsReached, WordState, add, after_step, at_first, claim, join, opening_words, split}
+use Rattle.def_words.specs.Steps.{AreWordsReached, WordState, add, after_step, at_first, claim, join, split}
 use Rattle.def_words_runs.specs.Runs.{OneRunEnds, RoomRows, brought}
 
 -- the claim word, both words of the rows, and the views

@@ -1,6 +1,6 @@
 -- A worked run of two workers, from the opening to the close.
 --     brought        what two jobs bring to two rows
-use Rattle.std.specs.Prelude.{◌≡◌, ℕ, zero, suc, ℤ, pos, negsuc, List, [], ◌∷◌}
+use Rattle.std.specs.Prelude.{◌≡◌, ℕ, zero, suc, ℤ, pos, negsuc, [], ◌∷◌}
 use Rattle.def_words.specs.Amounts.{past_sizes}
 use Rattle.def_words.specs.Steps.{AreWordsReached, Closes, WordState}
 

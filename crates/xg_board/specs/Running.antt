@@ -1,5 +1,5 @@
 -- What workers are before and after their work, and the amounts that they add.
-use Rattle.std.specs.Prelude.{◌≡◌, ℕ, ◌≤◌, nat_le, if◌then◌else◌, Bool, ℤ, pos, List, [], unsigned_abs}
+use Rattle.std.specs.Prelude.{◌≡◌, ℕ, nat_le, if◌then◌else◌, Bool, ℤ, pos, List, [], unsigned_abs}
 use Rattle.std.specs.List.{list_all, range_with_len}
 use Rattle.def_sums.specs.Limits.{most_row}
 use Rattle.def_sums.specs.Sum.{nat_sum_over}

@@ -1,5 +1,5 @@
 //! What the close of a board takes in: the seats of all passes, and those of the stripes with their totals.
-ghost use Rattle.std.specs.Prelude.{◌≡◌, ℕ, ◌<◌, ◌≤◌, ◌+◌, ◌^◌, ◌*◌, List, [], ◌∷◌, ◌++◌, length, All, pos, ◌+ℤ◌};
+ghost use Rattle.std.specs.Prelude.{◌≡◌, ℕ, ◌<◌, ◌≤◌, ◌+◌, ◌^◌, ◌*◌, List, [], length, All, pos, ◌+ℤ◌};
 ghost use Rattle.std.specs.Prelude.{unsigned_abs, slice_index_or, slice_set, vec_len};
 ghost use Rattle.def_sums.specs.Limits.{most_row};
 ghost use Rattle.def_history.specs.Core.{Right};

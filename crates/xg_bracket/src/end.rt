@@ -1,5 +1,5 @@
 //! An end of the bracket so far, and how it gives way to a better one.
-ghost use Rattle.std.specs.Prelude.{◌≡◌, ◌*ℤ◌, ◌<◌, ◌≤◌, ◌^◌, int_lt, length, pos, unsigned_abs};
+ghost use Rattle.std.specs.Prelude.{◌≡◌, ◌*ℤ◌, ◌<◌, ◌≤◌, int_lt, length, pos, unsigned_abs};
 ghost use Rattle.def_sums.specs.Limits.{most_row};
 ghost use Rattle.def_reply.specs.Offers.{keep_lower, keep_upper, most_divisor};
 ghost use Rattle.xg_bracket.specs.Ends.{CanKeep, end_after, kept_end, kept_of};

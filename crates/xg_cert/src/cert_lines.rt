@@ -1,5 +1,5 @@
 //! Further lines of the text that have a field for each number.
-ghost use Rattle.std.specs.Prelude.{◌≡◌, [], ◌∷◌, codes};
+ghost use Rattle.std.specs.Prelude.{[], ◌∷◌, codes};
 ghost use Rattle.std.specs.Fmt.{decimal, signed_decimal};
 ghost use Rattle.def_fraction.specs.Text.{fraction_text};
 ghost use Rattle.def_outside.specs.Cause.{HasCause};

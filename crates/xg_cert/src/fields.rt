@@ -1,5 +1,5 @@
 //! A field of the text, and its separator.
-ghost use Rattle.std.specs.Prelude.{◌≡◌, ◌<◌, length};
+ghost use Rattle.std.specs.Prelude.{◌<◌, length};
 ghost use Rattle.std.specs.Fmt.{decimal, signed_decimal};
 ghost use Rattle.def_outside.specs.Cause.{HasCause};
 ghost use Rattle.def_fraction.specs.Text.{fraction_text};

@@ -1,5 +1,5 @@
 //! Parts of the text with a line for each row, or a number for each action.
-ghost use Rattle.std.specs.Prelude.{◌≡◌, ◌<◌, length};
+ghost use Rattle.std.specs.Prelude.{◌<◌, length};
 ghost use Rattle.def_outside.specs.Cause.{HasCause};
 ghost use Rattle.def_cert_text.specs.Fields.{items_text};
 ghost use Rattle.def_cert_text.specs.Formats.{each_items, row_items, text_of};

@@ -1,6 +1,6 @@
 //! The outcome of a run: its trace, and both ends of its bracket.
 ghost use Rattle.std.specs.Prelude.{◌≡◌};
-ghost use Rattle.xg_cert.specs.Outcome.{ends_seen, head_of, outcome_seen, shown_ends};
+ghost use Rattle.xg_cert.specs.Outcome.{head_of, outcome_seen, shown_ends};
 
 use crate::head::Head;
 use def_reply::TraceLine;

@@ -1,5 +1,5 @@
 //! Reading the lines that have a field for each number.
-ghost use Rattle.std.specs.Prelude.{◌≡◌, ◌≤◌, ◌^◌, ℕ, IfOk};
+ghost use Rattle.std.specs.Prelude.{◌≡◌, ◌≤◌, IfOk};
 ghost use Rattle.std.specs.Fmt.{decimal};
 ghost use Rattle.def_sums.specs.Limits.{most_rounds};
 ghost use Rattle.def_tree.specs.Rules.{most_nodes};

@@ -1,5 +1,5 @@
 //! Reading the lines of which there are many.
-ghost use Rattle.std.specs.Prelude.{◌≡◌, ◌-◌, ◌+◌, ◌*◌, ◌/◌, ◌≤◌, min, length, IfOk, slice_index_or};
+ghost use Rattle.std.specs.Prelude.{◌≡◌, ◌-◌, ◌+◌, ◌*◌, ◌/◌, ◌≤◌, min, IfOk};
 ghost use Rattle.def_sums.specs.Limits.{most_root, most_rounds};
 ghost use Rattle.def_tree.specs.Rules.{most_actions, most_nodes};
 ghost use Rattle.def_cert_text.specs.Formats.{read_each, read_row};

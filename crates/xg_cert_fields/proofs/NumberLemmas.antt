@@ -1,5 +1,5 @@
 -- Numbers as fields.
-use Rattle.std.proofs.Common.{◌≡◌, ℕ, suc, ◌+◌, ◌/◌, ◌^◌, ◌<◌, ◌≤◌, ◌≤ℤ◌, Bool, true, false, cond, leb, ◌&&◌, List, ◌∷◌, length, get_or, drop, drop-cons, Option, Some, None, Ok, ℤ, pos, negsuc, unsigned_abs, IsTrue, refl, sym, ap, ◌∙◌, subst, arith, ⊎_elim}
+use Rattle.std.proofs.Common.{◌≡◌, ℕ, suc, ◌+◌, ◌/◌, ◌^◌, ◌<◌, ◌≤◌, ◌≤ℤ◌, true, false, leb, List, ◌∷◌, length, get_or, drop, drop-cons, Option, Some, None, Ok, ℤ, pos, negsuc, unsigned_abs, IsTrue, refl, sym, ap, ◌∙◌, subst, arith, ⊎_elim}
 use Rattle.std.specs.Char.{is_ascii_digit}
 use Rattle.std.specs.Str.{all_ascii_digits}
 use Rattle.std.proofs.Math.Nat.{div-lt_self}

@@ -4,7 +4,6 @@ ghost use Rattle.std.specs.Prelude.{pos, unsigned_abs, Some, None, IfSome, IsTru
 ghost use Rattle.std.specs.List.{prefix_len};
 ghost use Rattle.std.specs.Str.{all_ascii_digits};
 ghost use Rattle.def_fraction.specs.Digits.{is_numeral, number_of};
-ghost use Rattle.def_fraction.specs.Divisors.{gcd};
 ghost use Rattle.def_fraction.specs.Fraction.{fits, most, whole_number};
 ghost use Rattle.def_cert_text.specs.CertText.{version_in};
 ghost use Rattle.def_cert_text.specs.Numbers.{fraction_in, integer_in, is_no_slash, leads_no_zero, nonzero_in, over_in, whole_in};

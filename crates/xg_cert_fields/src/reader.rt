@@ -1,5 +1,5 @@
 //! A reader of fields.
-ghost use Rattle.std.specs.Prelude.{◌≡◌, ◌^◌, ◌<◌, ◌≤◌, ◌-◌, length, IfOk, take, drop, Some, None, [], ◌∷◌};
+ghost use Rattle.std.specs.Prelude.{◌≡◌, ◌<◌, ◌≤◌, ◌-◌, length, IfOk, Some};
 ghost use Rattle.std.specs.List.{prefix_len};
 ghost use Rattle.def_cert_text.specs.Fields.{fixed_word, number, is_field_byte, read_field, separated_by};
 ghost use Rattle.def_cert_text.specs.Formats.{fixed_field, whole_field, integer_field, fraction_field, nonzero_field, read_number};

@@ -1,5 +1,5 @@
 //! All tests of a certificate.
-ghost use Rattle.std.specs.Prelude.{◌≡◌, ◌*◌, ◌≤◌, IfOk, None, Ok, length};
+ghost use Rattle.std.specs.Prelude.{◌≡◌, ◌*◌, ◌≤◌, IfOk, None, Ok};
 ghost use Rattle.def_tree.specs.declared.Player.TheVariants.{One, Two};
 ghost use Rattle.def_plan.specs.Form.{AreInOrder};
 ghost use Rattle.def_cert_verdict.specs.Certificate.{last_line};
@@ -9,7 +9,7 @@ ghost use Rattle.def_cert_versions.specs.Upgrade.{IsUpgradable};
 ghost use Rattle.def_cert_versions.specs.Verdict.{first_trace_line_of, judged_with, tests_of, versioned_verdict};
 ghost use Rattle.def_check.specs.Check.{by_tests};
 ghost use Rattle.def_game_numbers.specs.WholeSums.{HasWholeSum};
-ghost use Rattle.xg_cert.specs.Printed.{bounds_in, plan_in, set_count_in};
+ghost use Rattle.xg_cert.specs.Printed.{bounds_in};
 ghost use Rattle.xg_check.specs.Answers.{AnswersVerdict, verdict_of};
 ghost use Rattle.xg_check.specs.Parts.{HasEachSequence, HasSetCountsOf, HasSetsOf, plan_round_in};
 ghost use Rattle.xg_check.specs.Parts.{tests_of_plan, tests_of_plans, tests_of_replies};

@@ -1,5 +1,5 @@
 //! The tests of a plan.
-ghost use Rattle.std.specs.Prelude.{◌≡◌, ◌*◌, ◌==◌, ◌≤◌, ◌&&◌, nat_le, length, None};
+ghost use Rattle.std.specs.Prelude.{◌≡◌, ◌==◌, ◌≤◌, ◌&&◌, nat_le, length, None};
 ghost use Rattle.def_plan.specs.Form.{player_sets, sequence_count};
 ghost use Rattle.def_cert_verdict.specs.Certificate.{printed_numbers};
 ghost use Rattle.def_cert_verdict.specs.Verdict.{first_failing, first_of_other_size, not_a_plan_at, plan_tests};

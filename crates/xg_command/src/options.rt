@@ -1,5 +1,5 @@
 //! The options of a call, and their numbers.
-ghost use Rattle.std.specs.Prelude.{◌≡◌, option_map};
+ghost use Rattle.std.specs.Prelude.{◌≡◌};
 ghost use Rattle.def_sums.specs.Limits.{least_cards, most_cards};
 ghost use Rattle.def_command.specs.Table.{least_number, most_number};
 ghost use Rattle.def_command.specs.Grammar.{number_from_to, number_so_far, with_number, settings_in, rows_in};

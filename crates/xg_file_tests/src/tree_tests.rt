@@ -1,5 +1,4 @@
 //! Small trees and a wide one, as they are built and walked.
-ghost use Rattle.std.specs.Prelude.{ℕ};
 ghost use Rattle.def_tree.specs.declared.Node.{Node};
 
 use std::mem::size_of;

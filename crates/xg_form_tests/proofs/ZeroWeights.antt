@@ -1,6 +1,6 @@
 -- Weights of zero have no mass.
 use Rattle.std.proofs.Common.{◌≡◌, ℕ, ◌*◌, map, replicate, ◌∙◌, arith}
-use Rattle.std.specs.Prelude.{ℤ, pos, unsigned_abs, sum}
+use Rattle.std.specs.Prelude.{pos, unsigned_abs, sum}
 use Rattle.std.proofs.lemmas.List.Sums.{sum-map}
 use Rattle.std.proofs.lemmas.List.Folds.{sum_by-replicate}
 

@@ -1,5 +1,5 @@
 //! Reading number literals and whole numbers.
-ghost use Rattle.std.specs.Prelude.{◌≡◌, ℕ, ◌+◌, ◌-◌, ◌*◌, ◌^◌, ◌<◌, ◌≤◌, ◌≢◌, ◌↔◌, ◌&&◌, nat_lt, if◌then◌else◌};
+ghost use Rattle.std.specs.Prelude.{◌≡◌, ◌+◌, ◌-◌, ◌*◌, ◌^◌, ◌<◌, ◌≤◌, ◌≢◌, ◌↔◌, ◌&&◌, nat_lt, if◌then◌else◌};
 ghost use Rattle.std.specs.Prelude.{Some, None, IfSome, min, length, Err, IsTrue, IsFalse, IfOk};
 ghost use Rattle.std.specs.Option.{option_map};
 ghost use Rattle.def_fraction.specs.Digits.{is_numeral, number_of, leading_digits, after_digits};

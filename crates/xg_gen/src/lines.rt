@@ -1,9 +1,9 @@
 //! The line of a node.
-ghost use Rattle.std.specs.Prelude.{◌≡◌, ◌≢◌, ◌-◌, ◌≤◌, [], ◌∷◌, length, slice_index_or};
+ghost use Rattle.std.specs.Prelude.{◌≢◌, ◌-◌, ◌≤◌, [], ◌∷◌, length, slice_index_or};
 ghost use Rattle.def_outside.specs.Cause.{HasCause};
 ghost use Rattle.def_file.specs.Content.{sets_of_kind};
 ghost use Rattle.def_file.specs.Faults.{outcome_at, set_at};
-ghost use Rattle.def_file.specs.Game.{GoesWith, IsInSet};
+ghost use Rattle.def_file.specs.Game.{GoesWith};
 ghost use Rattle.def_canon.specs.Canon.{action_pieces, chance_pieces, described_outcome, each, letter, list_pieces};
 ghost use Rattle.def_canon.specs.Canon.{node_pieces, outcome_pieces, payoffs_pieces, place_pieces, player_pieces};
 ghost use Rattle.def_canon.specs.Canon.{set_pieces, text_of_pieces};

@@ -1,12 +1,10 @@
 //! Files in memory.
-ghost use Rattle.std.specs.Prelude.{◌≡◌, ◌≢◌, ℕ, ◌+◌, ◌-◌, ◌<◌, ◌≤◌, ◌↔◌, ◌⊎◌, true, List, length, take, drop, min, position, nat_eq, Option, Some, None, is_some, is_ok, IsTrue, IsErr, vec_len, [], IfOk, IfSome, IfNone, OnOk, OnErr, IsErrOf};
-ghost use Rattle.std.specs.Cmp.Lexicographic.{pointwise};
+ghost use Rattle.std.specs.Prelude.{◌≡◌, ◌≢◌, ℕ, ◌+◌, ◌-◌, ◌<◌, ◌≤◌, ◌↔◌, ◌⊎◌, true, List, length, take, min, Option, Some, None, is_some, is_ok, IsTrue, IsErr, vec_len, [], IfOk, IfSome, OnOk, OnErr, IsErrOf};
 ghost use Rattle.std.specs.Option.{ForSome};
 ghost use Rattle.std.specs.Io.KnownBytes.{Consumes};
 ghost use Rattle.def_outside.specs.Calls.{past_count};
 ghost use Rattle.def_outside.specs.Cause.{HasCause, next_count};
 ghost use Rattle.xg_io.specs.Cause.{OpenHasCause};
-ghost use Rattle.xg_io.specs.Stored.{stored_bytes_of, stored_bytes_at};
 ghost use Rattle.xg_io.specs.Schedule.{failing_calls, calls_made, FailsNext};
 
 use crate::schedule::Schedule;

@@ -1,5 +1,5 @@
 //! Reading a file whole.
-ghost use Rattle.std.specs.Prelude.{◌≡◌, ◌+◌, ◌<◌, ◌≤◌, ◌↔◌, length, IsTrue, IfOk, IfSome, OnErr, IsErrOf, vec_len};
+ghost use Rattle.std.specs.Prelude.{◌≡◌, ◌+◌, ◌<◌, ◌≤◌, ◌↔◌, length, IsTrue, IfOk, IfSome, IsErrOf, vec_len};
 ghost use Rattle.def_outside.specs.Calls.{past_count};
 ghost use Rattle.def_outside.specs.Cause.{next_count};
 ghost use Rattle.xg_io.specs.Cause.{ReadAllHasCause};

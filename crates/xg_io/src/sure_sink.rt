@@ -1,6 +1,5 @@
 //! A sink that takes everything.
-ghost use Rattle.std.specs.Prelude.{◌≡◌, ◌+◌, ◌-◌, ◌^◌, ◌<◌, ◌≤◌, None, Option, List, ℕ, length, min, take, IfOk, OnOk, OnErr, IsOk};
-ghost use Rattle.std.specs.Io.KnownBytes.{append_known};
+ghost use Rattle.std.specs.Prelude.{◌≡◌, ◌+◌, ◌-◌, ◌^◌, ◌<◌, ◌≤◌, None, length, min, IfOk, OnErr, IsOk};
 ghost use Rattle.def_outside.specs.Cause.{HasCause};
 
 use crate::{Failed, Sink};

@@ -1,5 +1,5 @@
 //! The rows of a form.
-ghost use Rattle.std.specs.Prelude.{◌≡◌, ◌+◌, ◌<◌, length, replicate, pos, slice_set, IfOk};
+ghost use Rattle.std.specs.Prelude.{◌≡◌, ◌<◌, length, replicate, pos, slice_set, IfOk};
 ghost use Rattle.def_plan.specs.Form.{sequence_count};
 ghost use Rattle.xg_jobs.specs.Rows.{all_rows};
 

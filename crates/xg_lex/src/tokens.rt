@@ -1,5 +1,5 @@
 //! The tokens of a file, one after another.
-ghost use Rattle.std.specs.Prelude.{◌≡◌, ℕ, ◌+◌, ◌-◌, ◌<◌, ◌≤◌, ◌↔◌, IsTrue, Option, List, drop, length, slice_index, slice_range, IfOk, IfSome};
+ghost use Rattle.std.specs.Prelude.{◌≡◌, ℕ, ◌+◌, ◌-◌, ◌<◌, ◌≤◌, ◌↔◌, IsTrue, Option, drop, length, slice_index, slice_range, IfOk, IfSome};
 ghost use Rattle.std.specs.List.{prefix_len, AllPass};
 ghost use Rattle.def_file_tokens.specs.Bytes.{is_space, in_run, begins_word, begins_number};
 ghost use Rattle.def_file_tokens.specs.Texts.{IsInside, closing_from};

@@ -1,5 +1,5 @@
 -- What reading a file and accepting its game give together.
-use Rattle.std.proofs.Common.{◌≡◌, ℕ, List, Option, Some, None, Ok, Err, ap, sym, ◌∙◌}
+use Rattle.std.proofs.Common.{ℕ, List, Option, Some, None, Ok, Err, ap, sym, ◌∙◌}
 use Rattle.std.specs.Prelude.{Result}
 use Rattle.def_file.specs.Content.{GameFile}
 use Rattle.def_check.specs.Accepting.{accepted}

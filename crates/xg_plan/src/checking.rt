@@ -1,5 +1,5 @@
 //! The test of numbers: whether they are a plan.
-ghost use Rattle.std.specs.Prelude.{◌≡◌, ℕ, ◌+◌, ◌-◌, ◌^◌, ◌<◌, ◌≤◌, ◌↔◌};
+ghost use Rattle.std.specs.Prelude.{◌≡◌, ◌+◌, ◌-◌, ◌^◌, ◌<◌, ◌≤◌, ◌↔◌};
 ghost use Rattle.std.specs.Prelude.{IfSome, IsNone, IsTrue, length, slice_index_or};
 ghost use Rattle.def_plan.specs.Form.{PlacedSet, placed, player_sets, sequence_count};
 ghost use Rattle.def_plan.specs.Plan.{AddsUp, IsBadSet, IsPlan, bad_set};

@@ -1,6 +1,6 @@
 //! Lists of actions and of payoffs.
 ghost use Rattle.std.specs.Prelude.{◌≡◌, ◌-◌, [], length, option_map};
-ghost use Rattle.def_file.specs.Reading.{action_at, actions_at, actions_from, chance_at, comma_at, payoff_at, payoffs_at, payoffs_from};
+ghost use Rattle.def_file.specs.Reading.{action_at, actions_at, actions_from, chance_at, payoff_at, payoffs_at, payoffs_from};
 ghost use Rattle.xg_record.specs.Entry.{actions_seen};
 ghost use Rattle.xg_record.specs.Seen.{action_seen};
 ghost use Rattle.xg_read.specs.Gives.{Gives, GivesFor, GivesSeen};

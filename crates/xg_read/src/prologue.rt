@@ -1,6 +1,6 @@
 //! The prologue of a file.
 ghost use Rattle.std.specs.Prelude.{◌≡◌, ℕ, ◌+◌, ◌-◌, ◌^◌, ◌<◌, ◌≤◌, [], ◌∷◌, ◌++◌, List, length};
-ghost use Rattle.def_file.specs.Reading.{checked_names, names_from, prologue_at, most_bytes};
+ghost use Rattle.def_file.specs.Reading.{names_from, prologue_at, most_bytes};
 ghost use Rattle.xg_read.specs.Gives.{GivesFor};
 ghost use Rattle.xg_read.specs.Mentions.{AreFirstNames, GivesNames, IsBoth, comment_at, read_prologue};
 

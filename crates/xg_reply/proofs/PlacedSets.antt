@@ -1,6 +1,6 @@
 -- What a form tells of a set, for the set in its place.
 use Rattle.std.proofs.Common.{◌≡◌, ℕ, ◌+◌, ◌-◌, ◌<◌, ◌≤◌, List, [], ◌∷◌, length, get_or, take, drop}
-use Rattle.std.proofs.Common.{Some, slice_get, ap, sym, ◌∙◌, arith, take-append-drop}
+use Rattle.std.proofs.Common.{Some, slice_get, ap, sym, arith, take-append-drop}
 use Rattle.std.proofs.lemmas.List.{take_more}
 use Rattle.std.proofs.lemmas.List.Elements.{All-get_or}
 use Rattle.std.proofs.lemmas.Option.{get_or_from_slice_get}

@@ -1,5 +1,5 @@
 //! The best reply to a plan.
-ghost use Rattle.std.specs.Prelude.{◌≡◌, ℕ, ◌^◌, ◌<◌, ◌≤◌, List, length, map, pos, ◌*ℤ◌, unsigned_abs};
+ghost use Rattle.std.specs.Prelude.{◌≡◌, ℕ, ◌<◌, ◌≤◌, List, length, map, pos, ◌*ℤ◌, unsigned_abs};
 ghost use Rattle.def_sums.specs.Limits.{most_row};
 ghost use Rattle.def_tree.specs.declared.Player.TheVariants.{One, Two};
 ghost use Rattle.def_sums.specs.Sum.{nat_sum_over};

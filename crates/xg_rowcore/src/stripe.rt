@@ -1,6 +1,6 @@
 //! A stripe of the rows, with the history of its jobs.
 ghost use Rattle.std.specs.Prelude.{◌≡◌, ◌<◌, ◌≤◌, ◌*◌, ◌+◌, ◌^◌, ◌↔◌, [], ◌∷◌, length, IfOk, IsTrue, Contains};
-ghost use Rattle.std.specs.Prelude.{ℕ, pos, ◌+ℤ◌, unsigned_abs, slice_index_or, slice_set};
+ghost use Rattle.std.specs.Prelude.{ℕ, pos, unsigned_abs, slice_index_or};
 ghost use Rattle.def_sums.specs.Limits.{most_row};
 ghost use Rattle.def_history.specs.History.{IsLegal, place_of, replay, stripe_of};
 ghost use Rattle.def_history.specs.Packets.{IsPacketOf, place_count};

@@ -2,7 +2,6 @@
 ghost use Rattle.std.specs.Prelude.{◌≡◌, ◌≤◌, All, IfOk, length};
 ghost use Rattle.std.specs.Thread.{IsSync};
 ghost use Rattle.def_plan.specs.FormRows.{row_count};
-ghost use Rattle.def_sums.specs.Limits.{most_root};
 ghost use Rattle.xg_jobs.specs.Rows.{AreNumbersOf, ArePlainSums};
 ghost use Rattle.xg_jobs.specs.Table.{IsTableOf, most_touched};
 ghost use Rattle.xg_board.specs.Running.{job_amounts};

@@ -1,5 +1,5 @@
 -- A plan of the greatest root as a multiple of one of the greatest scale.
-use Rattle.std.proofs.Common.{◌≡◌, ℕ, zero, suc, ◌≤◌, List, arith, sym, subst, slice_index}
+use Rattle.std.proofs.Common.{◌≡◌, ℕ, zero, suc, List, arith, sym, subst, slice_index}
 use Rattle.def_plan.specs.Form.{AreInOrder, InformationSet}
 use Rattle.def_plan.specs.Plan.{IsPlan, IsPlanOrCleared}
 use Rattle.xg_plan.specs.Plan.{AreOfOneForm}

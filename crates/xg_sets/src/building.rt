@@ -4,7 +4,7 @@ ghost use Rattle.def_game_paths.specs.Coming.{visit_after};
 ghost use Rattle.def_game_paths.specs.Recall.{HasPerfectRecall};
 ghost use Rattle.def_sequence_form.specs.Sets.{sets_or_break};
 ghost use Rattle.def_tree.specs.Rules.{IsGameTree};
-ghost use Rattle.def_tree.specs.Tree.{Forest, node_count};
+ghost use Rattle.def_tree.specs.Tree.{node_count};
 ghost use Rattle.xg_sets.specs.Fault.{IsFirstBreakOf, TellsBreakOf};
 ghost use Rattle.xg_sets.specs.Entered.{AreAt, AreAtFirstChild, AreTablesOf, FindsBreak};
 ghost use Rattle.xg_sets.specs.Movers.{HasMoverAround};

@@ -1,6 +1,6 @@
 -- The leaves of a thread, one after the other, and what they bring to their sequence.
 use Rattle.std.proofs.Common.{◌≡◌, ℕ, zero, suc, ◌+◌, ◌-◌, ◌<◌, ◌≤◌, Bool, true, false, cond, eqb, List, [], ◌∷◌, length, get_or, filter, take, drop, refl, ap, sym, ◌∙◌, arith, eqb-true, Some, None}
-use Rattle.std.specs.Prelude.{pos, ◌+ℤ◌, slice_index}
+use Rattle.std.specs.Prelude.{pos, ◌+ℤ◌}
 use Rattle.std.proofs.lemmas.List.{drop-drop, drop-take, get_or-drop, get_or-map, get_or-take, length-drop, length-take}
 use Rattle.def_sums.specs.Sum.{sum_over}
 use Rattle.def_tree.specs.declared.Player.{Player}

@@ -1,5 +1,5 @@
 //! What the leaves of a job bring to a row.
-ghost use Rattle.std.specs.Prelude.{◌≡◌, ◌+◌, ◌-◌, ◌<◌, ◌≤◌, All, length, pos, ◌*ℤ◌, take, drop};
+ghost use Rattle.std.specs.Prelude.{◌≡◌, ◌+◌, ◌-◌, ◌<◌, ◌≤◌, All, length, pos, ◌*ℤ◌};
 ghost use Rattle.def_sums.specs.Limits.{most_root, past_number};
 ghost use Rattle.def_tree.specs.Opponent.{opponent};
 ghost use Rattle.def_plan.specs.Form.{player_sets, sequence_count};

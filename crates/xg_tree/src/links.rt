@@ -1,5 +1,5 @@
 //! The links between the nodes of a tree.
-ghost use Rattle.std.specs.Prelude.{◌≡◌, ◌+◌, ◌-◌, ◌<◌, ◌≤◌, [], ◌∷◌, ◌++◌, length, vec_len, vec_capacity};
+ghost use Rattle.std.specs.Prelude.{◌≡◌, ◌+◌, ◌-◌, ◌<◌, ◌≤◌, length, vec_len, vec_capacity};
 ghost use Rattle.def_tree.specs.Rules.{most_nodes};
 ghost use Rattle.xg_tree.specs.Linked.{ComeAfterParents, first_below, links_at, linked_next, next_place, numbered, with_next};
 ghost use Rattle.xg_tree.specs.Visits.{left_after};

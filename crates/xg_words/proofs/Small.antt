@@ -1,5 +1,5 @@
 -- Where an input fits, all jobs' amounts at a row are small together.
-use Rattle.std.proofs.Common.{ℕ, ◌≤◌, List, length, max, arith}
+use Rattle.std.proofs.Common.{ℕ, List, length, max, arith}
 use Rattle.def_plan.specs.Form.{SequenceForm}
 use Rattle.def_plan.specs.FormRows.{row_count}
 use Rattle.def_history.proofs.Amounts.{amounts_small}

@@ -9,7 +9,7 @@ ghost use Rattle.def_history.specs.Packets.{IsPacketOf};
 ghost use Rattle.def_words.specs.Amounts.{HaveRoom, LastIsComplete, IsNext};
 ghost use Rattle.xg_jobs.specs.Rows.{all_rows};
 ghost use Rattle.xg_jobs.specs.Table.{IsTableOf};
-ghost use Rattle.xg_words.specs.Holdings.{AreLeft, OwnerClaims, WorkerClaims, reached_after};
+ghost use Rattle.xg_words.specs.Holdings.{AreLeft, reached_after};
 
 use crate::counts::Counts;
 use crate::owner::Owner;

@@ -1,5 +1,5 @@
 //! The owner of a board.
-ghost use Rattle.std.specs.Prelude.{◌≡◌, []};
+ghost use Rattle.std.specs.Prelude.{◌≡◌};
 ghost use Rattle.def_words.specs.Views.{made_of, numbers_of, unjoined_of};
 ghost use Rattle.xg_atomic.specs.Seats.{IsOwner};
 

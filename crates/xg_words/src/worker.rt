@@ -1,5 +1,5 @@
 //! The workers of a board.
-ghost use Rattle.std.specs.Prelude.{◌≡◌, []};
+ghost use Rattle.std.specs.Prelude.{◌≡◌};
 ghost use Rattle.def_words.specs.Views.{numbers_of, reached_of};
 ghost use Rattle.xg_atomic.specs.Seats.{IsWorker};
 
