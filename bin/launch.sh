@@ -1,4 +1,5 @@
-# What the launchers of bin/ share. They set root, the repository's folder, before they read this file.
+# What the launchers of bin/ share. They set root, the repository's folder, and name, the program's, before they read this
+# file.
 
 # Whether a program isn't built yet, or crates.txt or a source in these parts of the crates is newer. A folder is newer
 # where a file came or went.
@@ -26,15 +27,31 @@ build() {
     return $status
 }
 
+# Runs the proved program with the words given. It is proved and built first where it isn't built yet or a source is
+# newer; what that says goes to standard error alone.
+launch() {
+    local program=$root/crates/$name/out/$name
+    # A gate takes away what checks made, and leaves the program that stands in out/.
+    if is_stale "$program" src specs proofs; then
+        program=$root/out/$name
+    fi
+    if is_stale "$program" src specs proofs; then
+        build "$program" "$root/tools/prove.py" "$name" || stop_unbuilt
+    fi
+    run "$program" "$@"
+}
+
 # Ends the launcher where a program couldn't be built.
 stop_unbuilt() {
-    echo "xg_solve: the program could not be built" >&2
+    echo "$name: the program could not be built" >&2
     exit 70
 }
 
-# Runs the program with the words given in the launcher's place. Where standard error is a terminal, the launcher stays
-# behind it, and says after a status 1, 2 or 3 which call explains it; into files and pipes nothing is added.
+# Runs the program with the words given in the launcher's place. Where standard error is a terminal, the launcher of
+# xg_solve stays behind it, and says after a status 1, 2 or 3 which call explains it; into files and pipes nothing is
+# added.
 run() {
+    [ "$name" = xg_solve ] || exec "$@"
     [ -t 2 ] || exec "$@"
     { true <&0; } 2>/dev/null || exec "$@"
     local status signal

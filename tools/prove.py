@@ -1,7 +1,9 @@
 #!/usr/bin/env python3
-"""Proves the program and all that it stands on, builds it, and says how far that is on standard error.
+"""Proves a program and all that it stands on, builds it, and says how far that is on standard error.
 
-Usage: tools/prove.py
+Usage: tools/prove.py [xg_solve | xg_close]
+
+Without a word that is `xg_solve`.
 
 Crates are proved side by side, each once those that it stands on are proved, and first those with the longest chain of
 others behind them. A crate gets the processors that no other waits for. How long that takes is told from what checks
@@ -32,7 +34,8 @@ sys.path.append(str(pathlib.Path(__file__).resolve().parent / "lib"))
 import meter
 
 ROOT = pathlib.Path(__file__).resolve().parent.parent
-CRATE = "xg_solve"
+PROGRAMS = ("xg_solve", "xg_close")
+CRATE = next(iter(sys.argv[1:]), PROGRAMS[0])
 PROGRAM = ROOT / "crates" / CRATE / "out" / CRATE
 KEPT = ROOT / "out" / CRATE
 RT = [sys.executable, str(ROOT / "tools" / "lib" / "toolchain.py")]
@@ -347,8 +350,8 @@ def prove():
 
 
 def main():
-    if sys.argv[1:]:
-        print("usage: tools/prove.py", file=sys.stderr)
+    if sys.argv[2:] or CRATE not in PROGRAMS:
+        print(f"usage: tools/prove.py [{' | '.join(PROGRAMS)}]", file=sys.stderr)
         return 2
     if not shutil.which("rt"):
         say("the toolchain's command rt isn't on the PATH")
