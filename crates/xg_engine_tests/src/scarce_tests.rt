@@ -11,7 +11,7 @@ use std::sync::atomic::{AtomicU64, Ordering};
 use std::test::Fail;
 use std::thread::Threads;
 use xg_engine::Engine;
-use xg_jobs::{JobTable, PlainRows, RowInput, RowMaker, Rows};
+use xg_jobs::{JobTable, PlainRows, RowInput, RowMaker, Rows, SmallRows};
 use xg_test_data::files::TWICE_HIDDEN;
 
 /// Makes rows by one loop, and has no memory at one of its calls, which are numbered from 1.
@@ -28,6 +28,8 @@ impl RowMaker for ScarceRows {
 
     ghost by_packets = { λ _. false };
 
+    ghost makes_small = { λ _. false };
+
     fn makes_packets(&self) -> bool {
         false
     }
@@ -43,6 +45,10 @@ impl RowMaker for ScarceRows {
             return Err(AllocError);
         }
         PlainRows.rows(rt, alloc, input, jobs)
+    }
+
+    fn small_rows(&self, _input: &RowInput<'_>, _jobs: &JobTable, _rows: &mut SmallRows) -> bool {
+        false
     }
 }
 

@@ -137,7 +137,7 @@ pub(crate) const ROUNDS_OF_TWICE_HIDDEN: &[WorkedRounds] = &[
 
 /// Pennies of which one pays twice as much. Their sizes together are 5 times 2^43, so that the sums of a round with the
 /// scale 209,715 surely have room in 64 bits, and those with the next scale don't.
-const HEAVY_PENNIES: &str = r#"EFG 2 R "" { "One" "Two" }
+pub(crate) const HEAVY_PENNIES: &str = r#"EFG 2 R "" { "One" "Two" }
 p "" 1 1 { "" "" } 0
 p "" 2 1 { "" "" } 0
 t "" 1 { 8796093022208, -8796093022208 }
@@ -147,7 +147,7 @@ t "" 2
 t "" 3 { 17592186044416, -17592186044416 }
 "#;
 
-const ROUNDS_OF_HEAVY_PENNIES: &[WorkedRounds] = &[
+pub(crate) const ROUNDS_OF_HEAVY_PENNIES: &[WorkedRounds] = &[
     WorkedRounds {
         rounds: 3,
         every: 3,
