@@ -7,7 +7,7 @@ ghost use Rattle.xg_jobs.specs.Table.{IsTableOf, most_touched};
 ghost use Rattle.xg_board.specs.Running.{job_amounts};
 
 use crate::games::{KUHN_ONE, KUHN_TWO, KUHN_WEIGHTS, THREE_JOBS, THREE_JOBS_WEIGHTS, put_kuhn};
-use crate::gates::Counts;
+use crate::gates::{Counts, Turns};
 use crate::made::{Built, are_rows, build, input_of, made};
 use std::alloc::{AllocError, Global};
 use std::marker::Brand;
@@ -193,6 +193,31 @@ fn assert_three_jobs<Rt: Abort + Threads + Wait + Sync>(
 fn workers_call_the_gate_for_each_job_and_stripe(rt: HostRuntime) -> Result<(), Fail> {
     let built = build(&rt, rt.alloc(), &THREE_JOBS, &THREE_JOBS_WEIGHTS)?;
     let asserted = assert_three_jobs(&rt, rt.alloc(), &built);
+    drop(built);
+    Ok(asserted?)
+}
+
+fn assert_turns<Rt: Abort + Threads + Wait + Sync>(
+    rt: &Rt,
+    alloc: Global,
+    built: &Built,
+) -> Result<(), AllocError>
+    requires sync { IsSync Rt.row }
+    requires table { IsTableOf built.now.form built.now.jobs }
+{
+    let input = input_of(rt, &built.form, &[10, 10, 0, 5, 5, 0, 10], &[2]);
+    let gate = Turns::new();
+    let rows = run_rows(rt, alloc, &input, &built.jobs, 1, 3, &gate)?;
+    drop(rows);
+    assert!(rt; gate.are(12));
+    Ok(())
+}
+
+// One worker passes the gate before it adds each of three jobs into three stripes.
+#[test]
+fn a_worker_passes_the_gate_before_it_adds(rt: HostRuntime) -> Result<(), Fail> {
+    let built = build(&rt, rt.alloc(), &THREE_JOBS, &THREE_JOBS_WEIGHTS)?;
+    let asserted = assert_turns(&rt, rt.alloc(), &built);
     drop(built);
     Ok(asserted?)
 }

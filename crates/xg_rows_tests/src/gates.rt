@@ -1,4 +1,4 @@
-//! Gates that count, and that delay.
+//! Gates that count, that know the order of calls, and that delay.
 use std::marker::Sync;
 use std::sync::Wait;
 use std::sync::atomic::{AtomicU64, Ordering};
@@ -35,6 +35,44 @@ impl Counts {
     pub(crate) fn are(&self, passes: u64, withins: u64) -> bool {
         self.passes.load(Ordering::SeqCst) == passes
             && self.withins.load(Ordering::SeqCst) == withins
+    }
+}
+
+/// Counts the calls of one worker over three stripes, and those that come out of turn: a pass has its turn first, and then
+/// each stripe from the first one on, again and again.
+#[derive(Drop)]
+pub(crate) struct Turns {
+    calls: AtomicU64,
+    strays: AtomicU64,
+}
+
+impl Gate for Turns {
+    fn pass<Rt: Threads + Wait + Sync>(&self, _rt: &Rt, _worker: u32, _job: u32) {
+        self.call(0);
+    }
+
+    fn within<Rt: Threads + Wait + Sync>(&self, _rt: &Rt, _worker: u32, stripe: u32) {
+        self.call(u64::from(stripe) + 1);
+    }
+}
+
+impl Turns {
+    pub(crate) fn new() -> Turns {
+        Turns {
+            calls: AtomicU64::new(0),
+            strays: AtomicU64::new(0),
+        }
+    }
+
+    fn call(&self, turn: u64) {
+        if self.calls.fetch_add(1, Ordering::SeqCst) % 4 != turn {
+            self.strays.fetch_add(1, Ordering::SeqCst);
+        }
+    }
+
+    /// Whether there were so many calls, each in its turn.
+    pub(crate) fn are(&self, calls: u64) -> bool {
+        self.calls.load(Ordering::SeqCst) == calls && self.strays.load(Ordering::SeqCst) == 0
     }
 }
 
