@@ -69,7 +69,24 @@ fn put_showdown(maker: &mut GameMaker, alloc: Global, i: u32, j: u32) -> Result<
     requires { Takes maker.old (leaf_record (def.wins_one (def.higher i j)) ∷ []) }
     ensures { OnOk result (GainsEntries maker.old maker.new (leaf_record (def.wins_one (def.higher i j)) ∷ [])) }
 {
-    let outcome = wins_one(alloc, higher(i, j))?;
+    put_win_of_one(maker, alloc, higher(i, j))
+}
+
+/// The play is over, and a player wins 1.
+fn put_win_of_one(maker: &mut GameMaker, alloc: Global, winner: Player) -> Result<(), AllocError>
+    requires { Takes maker.old (leaf_record (def.wins_one winner) ∷ []) }
+    ensures { OnOk result (GainsEntries maker.old maker.new (leaf_record (def.wins_one winner) ∷ [])) }
+{
+    let outcome = wins_one(alloc, winner)?;
+    put_end(maker, alloc, outcome)
+}
+
+/// The play is over, and a player wins 2.
+fn put_win_of_two(maker: &mut GameMaker, alloc: Global, winner: Player) -> Result<(), AllocError>
+    requires { Takes maker.old (leaf_record (def.wins_two winner) ∷ []) }
+    ensures { OnOk result (GainsEntries maker.old maker.new (leaf_record (def.wins_two winner) ∷ [])) }
+{
+    let outcome = wins_two(alloc, winner)?;
     put_end(maker, alloc, outcome)
 }
 
@@ -86,9 +103,7 @@ fn put_answer(
     ensures { OnOk result (GainsEntries maker.old maker.new (def.facing_bet 1 (def.answer n i) (def.wins_one Player.Two) (def.wins_two (def.higher i j)))) }
 {
     let set = answer(alloc, n, i)?;
-    let folded = wins_one(alloc, Player::Two)?;
-    let called = wins_two(alloc, higher(i, j))?;
-    put_facing_bet(maker, alloc, 1, set, folded, called)
+    put_facing_bet(maker, alloc, 1, set, Player::Two, higher(i, j))
 }
 
 /// Player two faces a bet.
@@ -104,32 +119,28 @@ fn put_after_bet(
     ensures { OnOk result (GainsEntries maker.old maker.new (def.facing_bet 2 (def.after_bet n j) (def.wins_one Player.One) (def.wins_two (def.higher i j)))) }
 {
     let set = after_bet(alloc, n, j)?;
-    let folded = wins_one(alloc, Player::One)?;
-    let called = wins_two(alloc, higher(i, j))?;
-    put_facing_bet(maker, alloc, 2, set, folded, called)
+    put_facing_bet(maker, alloc, 2, set, Player::One, higher(i, j))
 }
 
-/// A player who faces a bet folds or calls.
+/// A player who faces a bet folds or calls, and then `folded` or `called` wins.
 #[tactic(auto, using(crate::proofs::EntriesTakenInPieces::takes_one, crate::proofs::EntriesTakenInPieces::takes_more, crate::proofs::EntriesTakenInPieces::adds_more), unfolding(def_canon::specs::Poker::facing_bet))]
 fn put_facing_bet(
     maker: &mut GameMaker,
     alloc: Global,
     player: u64,
     set: DescribedSet,
-    folded: DescribedOutcome,
-    called: DescribedOutcome,
+    folded: Player,
+    called: Player,
 ) -> Result<(), AllocError>
     requires from_one { 1 ≤ set.number }
     requires set { set.number ≤ most }
-    requires folded { folded.number ≤ most }
-    requires called { called.number ≤ most }
-    requires takes { Takes maker.old (def.facing_bet player (mention_of_set set) (mention_of_outcome folded) (mention_of_outcome called)) }
+    requires takes { Takes maker.old (def.facing_bet player (mention_of_set set) (def.wins_one folded) (def.wins_two called)) }
     ensures { OnOk result (GainsEntries maker.old maker.new
-        (def.facing_bet player (mention_of_set set) (mention_of_outcome folded) (mention_of_outcome called))) }
+        (def.facing_bet player (mention_of_set set) (def.wins_one folded) (def.wins_two called))) }
 {
     put_move(maker, alloc, player, set)?;
-    put_end(maker, alloc, folded)?;
-    put_end(maker, alloc, called)
+    put_win_of_one(maker, alloc, folded)?;
+    put_win_of_two(maker, alloc, called)
 }
 
 /// Chance moves.

@@ -130,11 +130,8 @@ pub(crate) fn opening(alloc: Global, i: u32) -> Result<DescribedSet, AllocError>
     ensures set { IfOk result (λ set. mention_of_set set ≡ def.opening_set i) }
     ensures number { IfOk result (λ set. set.number ≡ i) }
 {
-    Ok(DescribedSet {
-        number: i as u64,
-        name: numbered(alloc, b"", i)?,
-        actions: two_moves(alloc, b"check", b"bet")?,
-    })
+    let name = numbered(alloc, b"", i)?;
+    with_two_moves(alloc, i as u64, name, b"check", b"bet")
 }
 
 /// Player two with card `j` after a check.
@@ -143,11 +140,8 @@ pub(crate) fn after_check(alloc: Global, j: u32) -> Result<DescribedSet, AllocEr
     ensures set { IfOk result (λ set. mention_of_set set ≡ def.after_check j) }
     ensures number { IfOk result (λ set. set.number ≡ j) }
 {
-    Ok(DescribedSet {
-        number: j as u64,
-        name: marked(alloc, j, b" c")?,
-        actions: two_moves(alloc, b"check", b"bet")?,
-    })
+    let name = marked(alloc, j, b" c")?;
+    with_two_moves(alloc, j as u64, name, b"check", b"bet")
 }
 
 /// Player one with card `i` after a check and a bet.
@@ -156,11 +150,8 @@ pub(crate) fn answer(alloc: Global, n: u32, i: u32) -> Result<DescribedSet, Allo
     ensures set { IfOk result (λ set. mention_of_set set ≡ def.answer n i) }
     ensures number { IfOk result (λ set. set.number ≡ n + i) }
 {
-    Ok(DescribedSet {
-        number: n as u64 + i as u64,
-        name: marked(alloc, i, b" cb")?,
-        actions: two_moves(alloc, b"fold", b"call")?,
-    })
+    let name = marked(alloc, i, b" cb")?;
+    with_two_moves(alloc, n as u64 + i as u64, name, b"fold", b"call")
 }
 
 /// Player two with card `j` after a bet.
@@ -169,11 +160,38 @@ pub(crate) fn after_bet(alloc: Global, n: u32, j: u32) -> Result<DescribedSet, A
     ensures set { IfOk result (λ set. mention_of_set set ≡ def.after_bet n j) }
     ensures number { IfOk result (λ set. set.number ≡ n + j) }
 {
-    Ok(DescribedSet {
-        number: n as u64 + j as u64,
-        name: marked(alloc, j, b" b")?,
-        actions: two_moves(alloc, b"fold", b"call")?,
-    })
+    let name = marked(alloc, j, b" b")?;
+    with_two_moves(alloc, n as u64 + j as u64, name, b"fold", b"call")
+}
+
+/// A set with two actions of a player.
+fn with_two_moves(
+    alloc: Global,
+    number: u64,
+    name: Text,
+    first: &[u8],
+    second: &[u8],
+) -> Result<DescribedSet, AllocError>
+    requires first { IsTrue (is_plain first.now) }
+    requires second { IsTrue (is_plain second.now) }
+    ensures set { IfOk result (λ set. mention_of_set set ≡ record {
+      number = number;
+      name = Some name;
+      actions = Some (named_action first.now ∷ named_action second.now ∷ []);
+    }) }
+    ensures number { IfOk result (λ set. set.number ≡ number) }
+{
+    match two_moves(alloc, first, second) {
+        Ok(actions) => Ok(DescribedSet {
+            number,
+            name,
+            actions,
+        }),
+        Err(error) => {
+            drop(name);
+            Err(error)
+        }
+    }
 }
 
 /// Two actions of a player.

@@ -25,7 +25,7 @@ pub fn one_card_poker(alloc: Global, n: u32) -> Result<Game, AllocError>
     match put_entries(&mut maker, alloc, n) {
         Ok(()) => Ok(maker.finish()),
         Err(error) => {
-            drop(maker);
+            maker.discard();
             Err(error)
         }
     }
@@ -40,8 +40,7 @@ fn put_entries(maker: &mut GameMaker, alloc: Global, n: u32) -> Result<(), Alloc
     ensures { OnOk result (GainsEntries maker.old maker.new (def.entries n)) }
 {
     put_deal_one(maker, alloc, n)?;
-    put_rounds(maker, alloc, n)?;
-    Ok(())
+    put_rounds(maker, alloc, n)
 }
 
 fn put_deal_one(maker: &mut GameMaker, alloc: Global, n: u32) -> Result<(), AllocError>
@@ -78,8 +77,7 @@ fn put_round(maker: &mut GameMaker, alloc: Global, n: u32, i: u32) -> Result<(),
     ensures { OnOk result (GainsEntries maker.old maker.new (chance_record (def.deal_two n i) ∷ def.hands n i (def.others n i))) }
 {
     put_deal_two(maker, alloc, n, i)?;
-    put_hands(maker, alloc, n, i)?;
-    Ok(())
+    put_hands(maker, alloc, n, i)
 }
 
 fn put_deal_two(maker: &mut GameMaker, alloc: Global, n: u32, i: u32) -> Result<(), AllocError>
