@@ -67,13 +67,40 @@ class Ended:
 
 
 class Game:
-    """A game in its file, and its numbers."""
+    """A game in its file, and its numbers. The form is there while the first table is made."""
 
     def __init__(self, name, data, path):
         self.name, self.path = name, str(path)
         path.write_bytes(data)
         self.form = sequence_form.weigh(efg.read_game(data))
         self.nodes, self.span = len(self.form.game.nodes), payoff_span(self.form)
+
+
+class Games:
+    """The games that are asked for, each of which is made and read once."""
+
+    def __init__(self, given, folder):
+        self.given, self.folder, self.made = given, folder, None
+
+    def poker(self, cards):
+        return subprocess.run([self.given.solver, "gen", str(cards)], capture_output=True, check=True).stdout
+
+    def __iter__(self):
+        if self.made is not None:
+            yield from self.made
+            return
+        self.made = []
+        for name, data_of in games(self.poker):
+            data = data_of() if self.given.only in name else b""
+            if 0 < entries_of(data) <= self.given.most_nodes:
+                self.made.append(Game(name, data, self.folder / f"{len(self.made)}.efg"))
+                yield self.made[-1]
+                self.made[-1].form = None
+
+
+def entries_of(data):
+    """How many nodes a file has in which each begins a line."""
+    return sum(line[:2] in (b"c ", b"p ", b"t ") for line in data.splitlines())
 
 
 class Bench:
@@ -196,7 +223,7 @@ def times(bench, chosen):
     heads = [cell for part in PARTS for cell in (f"`xg_close`, {told(part, '{:.0e}')}", "beside C++")]
     head("Game", "Nodes", *heads, "`solve`, 1e-03", "`plus`, 1e-03", "HiGHS", "its width")
     ratios = []
-    for game in chosen():
+    for game in chosen:
         cells = []
         for part in PARTS:
             ours, other = bench.by_close(game, part), bench.by_other(game, part)
@@ -215,7 +242,7 @@ def widths(bench, chosen):
     `solve`."""
     head("Game", "Milliseconds", "`solve`", "`plus`", "`xg_close`", "`solve` over `xg_close`")
     gains = []
-    for game in chosen():
+    for game in chosen:
         plain, found = bench.in_plain_time(game)
         parts = [None if it is None else it / (game.span or 1) for it in found]
         solve, ours = parts[0], parts[2]
@@ -229,7 +256,7 @@ def rounds(bench, chosen):
     """The third table: rounds to widths."""
     ours = [f"`xg_close`, {told(part, '{:.0e}')}" for part in PARTS]
     head("Game", "Nodes", *ours, "`solve`, 1e-03", "`plus`, 1e-03")
-    for game in chosen():
+    for game in chosen:
         width = game.span * PARTS[0]
         found = [bench.rounds_of_close(game, part) for part in PARTS]
         found += [bench.rounds_to(game, it, [width]).get(width) for it in MOST_ROUNDS]
@@ -271,16 +298,7 @@ def main():
     with tempfile.TemporaryDirectory() as name:
         folder = pathlib.Path(name)
         bench = Bench(given, built(given.other, folder) if given.other else None)
-        poker = lambda cards: subprocess.run([given.solver, "gen", str(cards)], capture_output=True, check=True).stdout
-
-        def chosen():
-            for which, data_of in games(poker):
-                if given.only in which:
-                    game = Game(which, data_of(), folder / "game.efg")
-                    if game.nodes <= given.most_nodes:
-                        yield game
-
-        found = {}
+        chosen, found = Games(given, folder), {}
         for table in (times, widths, rounds):
             if given.table in (None, table.__name__):
                 found[table] = table(bench, chosen)
