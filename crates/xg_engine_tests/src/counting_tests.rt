@@ -103,7 +103,8 @@ fn small_rows_are_asked_for_once_a_round_and_an_evaluation(rt: HostRuntime) -> R
     Ok(())
 }
 
-// Three rounds and their evaluation, whose numbers are three times as large: the rounds of the first case alone are small.
+// Three rounds and their evaluation, whose numbers are three times as large: the rounds of the first case alone
+// are small.
 #[test]
 fn wide_rows_are_asked_for_where_small_ones_have_no_room(rt: HostRuntime) -> Result<(), Fail> {
     let (small_rounds, wide_rounds) = calls_of_both(

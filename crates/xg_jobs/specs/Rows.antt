@@ -28,8 +28,8 @@ pub record ArePlainSums (form : SequenceForm) (numbers_one numbers_two : List �
   pub one : amounts.one ≡ player_rows form One numbers_two
   pub two : amounts.two ≡ player_rows form Two numbers_one
 
--- the sizes of all weights together, times the greatest number of both players, are within 64 bits with a sign, and so is
--- each sum
+-- the sizes of all weights together, times the greatest number of both players, are within 64 bits with a sign, and so
+-- is each sum
 abbrev pub HaveSmallRows : SequenceForm → List ℕ → List ℕ → Type 0
 HaveSmallRows form numbers_one numbers_two =
     mass_of form.leaves * max (greatest_of numbers_one) (greatest_of numbers_two) < 2 ^ 63

@@ -42,8 +42,8 @@ pub trait RowMaker {
         requires table { Serves (by_packets self.now) input.now.form.now jobs.now }
         ensures { IfOk result (λ rows. ArePlainSums input.now.form.now input.now.one.now input.now.two.now rows) };
 
-    /// Writes the same sums into rows of 64 bits, if the maker makes such rows and it is known that each sum has room in
-    /// them; else what is written means nothing. Takes no memory.
+    /// Writes the same sums into rows of 64 bits, if the maker makes such rows and it is known that each sum has room
+    /// in them; else what is written means nothing. Takes no memory.
     fn small_rows(&self, input: &RowInput<'_>, jobs: &JobTable, rows: &mut SmallRows) -> bool
         requires numbers { AreNumbersOf input.now.form.now input.now.one.now input.now.two.now }
         requires table { HasLeavesOf input.now.form.now jobs.now }

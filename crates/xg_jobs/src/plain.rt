@@ -52,7 +52,8 @@ impl RowMaker for PlainRows {
         requires table { HasLeavesOf input.now.form.now jobs.now }
         requires rows_one { length rows.old.one ≡ sequence_count input.now.form.now.sets_one }
         requires rows_two { length rows.old.two ≡ sequence_count input.now.form.now.sets_two }
-        ensures small { IsTrue result ↔ (IsTrue true × HaveSmallRows input.now.form.now input.now.one.now input.now.two.now) }
+        ensures small { IsTrue result ↔ (IsTrue true
+            × HaveSmallRows input.now.form.now input.now.one.now input.now.two.now) }
         ensures fits { let most = max (greatest_of input.now.one.now) (greatest_of input.now.two.now) in
             IsTrue result ↔ jobs.now.mass * most < 2 ^ 63 }
         ensures sums { IsTrue result → ArePlainSums input.now.form.now input.now.one.now input.now.two.now rows.new }

@@ -4,8 +4,8 @@ use Rattle.std.specs.List.{last_or}
 use Rattle.std.specs.Option.{ForSome}
 use Rattle.def_history.specs.Packets.{RowAmount}
 
--- the entries, in their order, how many there is room for, and for how many stripes there are chains through their rows,
--- or 0 where there are none
+-- the entries, in their order, how many there is room for, and for how many stripes there are chains through their
+-- rows, or 0 where there are none
 pub record Listed : Type 0 where
   pub list : List RowAmount
   pub room : ℕ

@@ -31,7 +31,11 @@ impl Model for RowEntries {
 
     ghost Value = { Listed };
 
-    ghost view = { λ e. record { list = entries_of_rows e.rows.items e.amounts.list; room = e.room; chained = e.chains.stripes } };
+    ghost view = { λ e. record {
+      list = entries_of_rows e.rows.items e.amounts.list;
+      room = e.room;
+      chained = e.chains.stripes;
+    } };
 
     ghost invariant = { λ e. (length e.rows.items ≡ length e.amounts.list)
         × AreRising (entries_of_rows e.rows.items e.amounts.list)

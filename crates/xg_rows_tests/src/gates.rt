@@ -38,8 +38,8 @@ impl Counts {
     }
 }
 
-/// Counts the calls of one worker over three stripes, and those that come out of turn: a pass has its turn first, and then
-/// each stripe from the first one on, again and again.
+/// Counts the calls of one worker over three stripes, and those that come out of turn: a pass has its turn first, and
+/// then each stripe from the first one on, again and again.
 #[derive(Drop)]
 pub(crate) struct Turns {
     calls: AtomicU64,
