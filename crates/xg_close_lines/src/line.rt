@@ -14,7 +14,7 @@ use xg_frac::{Ratio, put_ratio};
 use xg_io::{Sink, Writable, WriteFault, write_all, write_paged};
 
 /// How a search stands, as a line says it.
-#[derive(Clone, Copy, Debug)]
+#[derive(Clone, Copy)]
 pub struct Progress {
     /// How many rounds were played.
     pub rounds: u32,
