@@ -1,5 +1,7 @@
 //! A game that is accepted.
 ghost use Rattle.std.specs.Prelude.{◌≡◌, IfOk, None};
+ghost use Rattle.def_game_numbers.specs.Numbers.{tables_of};
+ghost use Rattle.def_payoffs.specs.Range.{IsPayoffRange};
 ghost use Rattle.def_program.specs.Text.{game_head};
 ghost use Rattle.xg_cert.specs.Outcome.{head_of};
 ghost use Rattle.xg_load.specs.Accepted.{Opens};
@@ -12,6 +14,7 @@ use xg_cert::Head;
 use xg_engine::{Engine, Settings, head_with};
 use xg_game::{Game, Refused};
 use xg_numbers::Numbers;
+use xg_scale::{PayoffRange, payoff_range};
 
 /// A game that is accepted: as its file has it, and in numbers.
 #[derive(Drop)]
@@ -21,10 +24,11 @@ pub struct AcceptedGame {
 }
 
 impl Model for AcceptedGame {
-    ghost use Rattle.std.specs.Prelude.{◌≡◌};
+    ghost use Rattle.std.specs.Prelude.{◌≡◌, None};
     ghost use Rattle.std.specs.Coded.{codes};
     ghost use Rattle.def_tree.specs.Code.{forest_code};
     ghost use Rattle.def_file.specs.Content.{GameFile};
+    ghost use Rattle.def_game_numbers.specs.Numbers.{game_file_fault};
     ghost use Rattle.def_game_numbers.specs.Weighed.{weighed_game};
 
     ghost Value = { GameFile };
@@ -33,7 +37,7 @@ impl Model for AcceptedGame {
 
     ghost view = { λ a. a.game };
 
-    ghost invariant = { λ a. a.numbers ≡ weighed_game a.game };
+    ghost invariant = { λ a. (a.numbers ≡ weighed_game a.game) × (game_file_fault a.game ≡ None) };
 }
 
 impl AcceptedGame {
@@ -80,5 +84,17 @@ impl AcceptedGame {
         ensures { head_of result ≡ game_head self.now (settings_seen settings) }
     {
         head_with(&self.numbers, settings)
+    }
+
+    /// The least and the greatest of what a leaf pays player one, by a walk over the game's nodes.
+    pub fn payoff_range(&self, alloc: Global) -> Result<PayoffRange, AllocError>
+        ensures { IfOk result (λ range. IsPayoffRange (tables_of self.now) self.now.tree range.least range.greatest) }
+    {
+        self.game.numbers_are_in_lowest_terms();
+        match payoff_range(alloc, &self.game) {
+            Ok(range) => Ok(range),
+            Err(Refused::NoMemory) => Err(AllocError),
+            Err(Refused::File(_)) => unreachable!(),
+        }
     }
 }

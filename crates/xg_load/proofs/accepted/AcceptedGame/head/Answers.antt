@@ -11,6 +11,6 @@ pub returns : goal.returns
 returns c =
     let settings = c.args.settings in
     c.head_with.ensures.exact
-    ∙ ap (λ (numbers : WeighedGame). head_with numbers settings) c.self.invariant
+    ∙ ap (λ (numbers : WeighedGame). head_with numbers settings) c.self.invariant.0
     ∙ run_head_is c.self.inside.game settings
     ∙ ap (λ (game : GameFile). game_head game (settings_seen settings)) c.self.view_is
