@@ -1,0 +1,5 @@
+pub mod Gaps
+pub mod Spoken
+pub mod Statuses
+pub mod Found
+pub mod Closings

@@ -1,0 +1,5 @@
+pub mod Widths
+pub mod Brackets
+pub mod Said
+pub mod Endings
+pub mod Searched
