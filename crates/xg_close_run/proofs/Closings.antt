@@ -1,5 +1,5 @@
 -- How a search on an accepted game ends.
-use Rattle.std.proofs.Common.{◌≡◌, ℕ, ◌*◌, ◌≤◌, List, Option, Result, Ok, Err, Bool, true, false, refl, sym, subst}
+use Rattle.std.proofs.Common.{ℕ, ◌*◌, ◌≤◌, List, Option, Result, Ok, Err, Bool, true, false, refl, sym, subst}
 use Rattle.std.specs.Prelude.{◌↔◌, IsTrue}
 use Rattle.def_outside.specs.Calls.{SinkCall, Wrote, WroteFront}
 use Rattle.def_outside.specs.Cause.{HasCause}

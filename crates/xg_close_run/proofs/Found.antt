@@ -1,5 +1,5 @@
 -- What a search keeps, as plans with best replies.
-use Rattle.std.proofs.Common.{◌≡◌, ℕ, ◌*◌, ◌≤◌, List, ℤ, unsigned_abs, refl, sym, ap, ◌∙◌, subst, arith}
+use Rattle.std.proofs.Common.{◌≡◌, ℕ, ◌*◌, ◌≤◌, List, ℤ, unsigned_abs, sym, ap, subst, arith}
 use Rattle.def_sums.specs.Limits.{most_mass, most_root, most_row}
 use Rattle.std.specs.Prelude.{◌↔◌, slice_index, Option, Result, Ok, Err, OnOk, OnErr}
 use Rattle.std.specs.Io.KnownBytes.{append_known}
@@ -17,7 +17,7 @@ use Rattle.def_cert_verdict.specs.Ranges.{IsFromTo}
 use Rattle.def_game_numbers.specs.WholeSums.{IsWholeIn}
 use Rattle.def_close.specs.Plans.{ArePlansOf, ends_of_plans, one_line}
 use Rattle.xg_bracket.proofs.Offered.{length-best}
-use Rattle.xg_cert.specs.Writable.{IsEndOf, IsOutcomeOf}
+use Rattle.xg_cert.specs.Writable.{IsOutcomeOf}
 use Rattle.xg_search.specs.declared.search.Search.{Search}
 use Rattle.xg_search.specs.Searches.{IsSearchOf, high_of, low_of, lower_of, upper_of}
 

@@ -1,7 +1,7 @@
 -- The bracket that is written of a file's game.
 --     HasBracketText file IsSo         a text of a bracket of the game of a file of these bytes, of which this is so
 --     InfoMeans content answer         what `info` means of a file's content, where that is told
-use Rattle.std.specs.Prelude.{◌≡◌, ◌⊎◌, ℕ, List, Option, IfSome, IsSomeAnd, unsigned_abs}
+use Rattle.std.specs.Prelude.{◌≡◌, ◌⊎◌, ℕ, List, Option, IfSome, IsSomeAnd}
 use Rattle.def_fraction.specs.Fraction.{Fraction}
 use Rattle.def_sums.specs.Limits.{most_root}
 use Rattle.def_file.specs.Content.{GameFile}
@@ -10,7 +10,7 @@ use Rattle.def_program.specs.Meaning.{EndsWith, FileMeans}
 use Rattle.def_program.specs.Program.{Answer}
 use Rattle.def_program.specs.Text.{form_of_file, info_text}
 use Rattle.def_close.specs.Narrow.{IsAsNarrow}
-use Rattle.def_close.specs.Plans.{ArePlansOf, IsBracketText, pair_high, pair_low, pair_text}
+use Rattle.def_close.specs.Plans.{ArePlansOf, IsBracketText, pair_high, pair_low}
 use Rattle.def_progress.specs.Decimals.{value_of}
 use Rattle.def_progress.specs.Progress.{Standing}
 use Rattle.xg_close_run.specs.Widths.{IsShown, IsWidth}

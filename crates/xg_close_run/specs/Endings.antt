@@ -1,5 +1,5 @@
 -- How a search ends: the exit status, the line that is said, and what the end shows.
-use Rattle.std.specs.Prelude.{◌≡◌, ℕ, List, [], Option, IfSome, string_bytes}
+use Rattle.std.specs.Prelude.{◌≡◌, ℕ, List, [], Option, string_bytes}
 use Rattle.def_outside.specs.Calls.{FilesCall, SinkCall, HasFailedOnce, HasNoFault, Wrote, WroteFront, IsUntouched}
 use Rattle.def_fraction.specs.Fraction.{Fraction}
 use Rattle.def_sums.specs.Limits.{most_root}
@@ -7,8 +7,8 @@ use Rattle.def_file.specs.declared.FileFault.{FileFault}
 use Rattle.def_file.specs.Content.{GameFile}
 use Rattle.def_program.specs.Lines.{IsLine}
 use Rattle.def_program.specs.Meaning.{MeansOnly}
-use Rattle.def_program.specs.Program.{Answer, refusal, success}
-use Rattle.def_program.specs.Text.{form_of_file, info_text}
+use Rattle.def_program.specs.Program.{Answer, refusal}
+use Rattle.def_program.specs.Text.{form_of_file}
 use Rattle.def_program.specs.TextLines.{fault_line, memory_line, read_line, write_line}
 use Rattle.def_close.specs.Plans.{ArePlansOf, pair_high, pair_low, pair_text}
 use Rattle.xg_load.specs.declared.loading.LoadFault.{LoadFault}

@@ -1,5 +1,5 @@
 -- What is said of a search, and at its end.
---     SaysWhole, SaysFront     the text was written, or the one write that failed cut it off
+--     SaysBy heard sink text   the text was written, or the one write that failed cut it off
 --     SaysOfSearch             lines of progress, unless it was to be quiet, and then the line of the status
 use Rattle.std.specs.Prelude.{◌≡◌, ◌⊎◌, ℕ, List, [], ◌++◌, Bool, true, false, IsTrue}
 use Rattle.def_outside.specs.Calls.{HasFailedOnce, HasNoFault, SinkCall, Wrote, WroteFront}

@@ -1,12 +1,14 @@
 //! The top call.
 ghost use Rattle.std.specs.Prelude.{◌≡◌, ◌≢◌, ◌≤◌, ◌⊎◌, IsTrue, true, false};
-ghost use Rattle.def_outside.specs.Calls.{HasFailed, HasFailedOnce, MayHaveFailed, OpensAtMost, Says, Wrote, WroteFront, WroteNothing};
+ghost use Rattle.def_outside.specs.Calls.{HasFailed, HasFailedOnce, MayHaveFailed, OpensAtMost, Says};
+ghost use Rattle.def_outside.specs.Calls.{Wrote, WroteFront, WroteNothing};
 ghost use Rattle.def_program.specs.Meaning.{EachMeant, EndsWith};
 ghost use Rattle.xg_close_words.specs.Limits.{AreWithinLimits};
 ghost use Rattle.xg_io.specs.Calls.{files_call, sink_call};
-ghost use Rattle.xg_close_run.specs.Brackets.{GoesWithInfo, InfoMeans, IsNarrowEnough, IsTooWide, IsTrueWhereTold, IsWritten};
+ghost use Rattle.xg_close_run.specs.Brackets.{GoesWithInfo, InfoMeans, IsNarrowEnough, IsTooWide};
+ghost use Rattle.xg_close_run.specs.Brackets.{IsTrueWhereTold, IsWritten};
 ghost use Rattle.xg_close_run.specs.Endings.{Concludes, line_at_end, status_of};
-ghost use Rattle.xg_close_run.specs.Said.{SaysBy, SaysOfSearch, SaysProgress};
+ghost use Rattle.xg_close_run.specs.Said.{SaysOfSearch, SaysProgress};
 
 use crate::closing::{Closing, close, unsaid};
 use crate::ending::Ending;
