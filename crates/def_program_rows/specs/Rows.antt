@@ -1,5 +1,5 @@
 -- Worked rows: a game whose sum isn't 0, one-card poker without a file, a batch of ten files, and a canonical form.
-use Rattle.std.specs.Prelude.{◌≡◌, ℕ, List, [], ◌∷◌, ◌++◌, codes, Option, Some, Result, Ok, Err}
+use Rattle.std.specs.Prelude.{◌≡◌, ℕ, List, [], ◌∷◌, ◌++◌, codes, Option, Some, None, Result, Ok, Err}
 use Rattle.def_file.specs.declared.FileFault.{FileFault}
 use Rattle.def_file.specs.Content.{GameFile}
 use Rattle.def_canon.specs.Canon.{canon}
