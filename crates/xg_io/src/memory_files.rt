@@ -14,7 +14,7 @@ use std::alloc::{AllocError, Global};
 
 /// Files in memory, for tests. Their calls of `open` and `read` are numbered together from 1, and fail where they are
 /// told to; a name that they don't hold fails too. They tell what is left.
-#[derive(Debug, Drop)]
+#[derive(Drop)]
 pub struct MemFiles {
     files: Vec<Stored>,
     current: Option<usize>,

@@ -10,7 +10,7 @@ use std::alloc::{AllocError, Global};
 
 /// A sink in memory, for tests. Its writes are numbered from 1, and those listed fail; a write fails too where the
 /// room is full, and a piece larger than the room is taken in part. It tells what is written.
-#[derive(Debug, Drop)]
+#[derive(Drop)]
 pub struct MemSink {
     bytes: Vec<u8>,
     capacity: usize,

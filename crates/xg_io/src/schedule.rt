@@ -6,7 +6,7 @@ use crate::Failed;
 use std::alloc::{AllocError, Global};
 
 /// Counts the calls of an object, lets those fail whose numbers are listed, and counts the faults.
-#[derive(Debug, Drop)]
+#[derive(Drop)]
 pub struct Schedule {
     failing: Vec<u64>,
     calls: u64,

@@ -6,7 +6,7 @@ ghost use Rattle.xg_io.specs.Stored.{stored_bytes_of, stored_bytes_at, sure_byte
 use std::alloc::AllocError;
 
 /// A file in memory.
-#[derive(Debug, Drop)]
+#[derive(Drop)]
 pub(crate) struct Stored {
     name: Vec<u8>,
     bytes: Vec<u8>,

@@ -11,7 +11,7 @@ use std::alloc::{AllocError, Global};
 
 /// Files in memory that never fail, for tests: a name that they don't hold opens as an empty file. They tell what is
 /// left.
-#[derive(Debug, Drop)]
+#[derive(Drop)]
 pub struct SureFiles {
     files: Vec<Stored>,
     current: Option<usize>,

@@ -6,7 +6,7 @@ use crate::{Failed, Sink};
 
 /// A sink that takes everything and never fails, for tests. It keeps the number of bytes alone, and tells nothing of
 /// what they are.
-#[derive(Debug, Drop)]
+#[derive(Drop)]
 pub struct SureSink {
     count: u64,
 }
