@@ -77,7 +77,8 @@ GAMES = [
     at_token("4 TrailingText at", "t", "the tree is complete before this t", "the end of the file",
              f"take away what follows, or give a set above one action more: {ORDER}", 't "" 0\nt'),
     at_token("5 Number at Form", "1.0", "this 1.0 isn't a number of the form that the set's number has",
-             "the set's number, digits alone", "write digits alone, without a sign, a point or a fraction", 'p "" 1 1.0'),
+             "the set's number, digits alone", "write digits alone, without a sign, a point or a fraction",
+             'p "" 1 1.0'),
     at_token("5 Number at Form", "50%", "this 50% isn't a number of the form that the action's probability has",
              f"the action's probability, {LITERAL}", "write 50/100 for 50%", 'c "" 1 { "a" 50% "b" 1/2 } 0'),
     at_token("5 Number at Form", "1e-100", "this 1e-100 isn't a number of the form that a payoff has",
@@ -99,16 +100,20 @@ GAMES = [
              "this 4611686018427387905 is too large for the outcome's number",
              f"the outcome's number, at most {LIMIT}", "write a smaller number", 't "" 4611686018427387905'),
     ("refused 6 Players count 3", 'EFG 2 R "x" { "A" "B" "C" }\nt "" 0\n', ":1:27",
-     "the game has 3 players, and only games of two are solved", "}", "two names in braces", "name two players; chance is none"),
+     "the game has 3 players, and only games of two are solved", "}", "two names in braces",
+     "name two players; chance is none"),
     at_node("7 PlayerNumber", "3", "this 3 is the number of no player", "the player's number, 1 or 2",
             "write 1 or 2; a move of chance begins with c", 'p "" 3 1 { "a" } 0'),
     at_node("8 SetUndefined", "7", "set 7 of player 2 has no list of actions, and this is its first mention",
-            "the set's actions", "write its actions in braces behind its number here; later mentions may leave them out",
+            "the set's actions",
+            "write its actions in braces behind its number here; later mentions may leave them out",
             'p "" 2 7 "x" 0'),
     at_node("9 SetMismatch", '5 "coin" { "h" 1/2 "e"',
             "the name or the list of set 5 of chance isn't that of its first mention",
-            'what node 2 says: "coin" { "h" 1/2 "t" 1/2 }', "write the same, leave it out, or take another set's number",
-            'p "" 1 1 { "a" "b" } 0\nc "" 5 "coin" { "h" .5 "t" .5 } 0\nt "" 0\nt "" 0\nc "" 5 "coin" { "h" 1/2 "e" 1/2 } 0\n', 5),
+            'what node 2 says: "coin" { "h" 1/2 "t" 1/2 }',
+            "write the same, leave it out, or take another set's number",
+            'p "" 1 1 { "a" "b" } 0\nc "" 5 "coin" { "h" .5 "t" .5 } 0\nt "" 0\nt "" 0\n'
+            'c "" 5 "coin" { "h" 1/2 "e" 1/2 } 0\n', 5),
     at_node("10 OutcomeUndefined", "4", "outcome 4 has no payoffs, and this is its first mention",
             "the outcome's payoffs",
             "write its two payoffs in braces behind its number here; outcome 0 alone needs none", 't "" 4'),
@@ -151,7 +156,8 @@ GAMES = [
             'p "" 1 1 { "a" "b" } 0\nt "" 0\nt "" 2 { .334, -.333 }\n', 3),
     ("refused 18 NotRecall node 5 earlier 2",
      PROLOGUE + 'p "" 1 1 { "l" "r" } 0\np "" 1 2 { "x" "y" } 0\nt "" 0\nt "" 0\n'
-     'p "" 1 2 0\nt "" 0\nt "" 0\n', ":6:8", "node 5: player 1 can't tell this node from node 2, as both are in set 2, but did "
+     'p "" 1 2 0\nt "" 0\nt "" 0\n', ":6:8",
+     "node 5: player 1 can't tell this node from node 2, as both are in set 2, but did "
      'other things before: "r" at set 1 here, and "l" at set 1 there', "2 0", "what player 1 did before node 2",
      "give the two nodes sets of their own: only players who remember what they did are taken"),
     at_node("19 Scale", 'c "" 1 0',
@@ -252,6 +258,7 @@ BROKEN = [
 
 HELP = "the program takes no word for help: README.md has its commands, docs/words.md exactly its words"
 COMMANDS = "solve, check, upgrade, info, gen, drill, plus, batch"
+CLOSE = "which says what is wrong with its words; docs/xg_close.md has them"
 WRONG_CALLS = [
     ([], [f"no command; the first word is one of {COMMANDS}"]),
     (["help"], [f"no command help: {HELP}"]),
@@ -278,6 +285,9 @@ WRONG_CALLS = [
     (["solve", "a.efg", "--rounds", "5", "--rounds=5"], ["--rounds stands twice"]),
     (["batch", "a.efg", "--atomic", "1"], ["batch has no option --atomic"]),
     (["check", "a.efg", "c", "--rounds", "1"], ["check has no options, and --rounds is one of others"]),
+    (["xg_close", "a.efg", "--width", "0"], [f"no command xg_close: it is a program of its own, {CLOSE}"]),
+    (["solve", "a.efg", "--width", "0.01"], [f"no option --width: it is one of xg_close, {CLOSE}"]),
+    (["solve", "a.efg", "--quiet"], [f"no option --quiet: it is one of xg_close, {CLOSE}"]),
     (["batch"], ["batch takes 1 to 16 files, and none is here"]),
     (["batch", *"abcdefghijklmnopq"], ["batch takes 1 to 16 files, and 17 are here"]),
     (["gen", "1"], ["gen takes 2 to 64, and 1 is less"]),

@@ -31,6 +31,9 @@ OPTIONS = {
 HELPS = ("help", "man", "version", "--help", "-h", "-?", "--version", "-V", "-v")
 DIGITS = re.compile(r"[0-9]+")
 NOTHING = "the program takes no word for help: README.md has its commands, docs/words.md exactly its words"
+# Words of the other program, which says of its own words itself what is wrong with them.
+OF_CLOSE = ("--width", "--quiet")
+CLOSE = "which says what is wrong with its words; docs/xg_close.md has them"
 
 
 def faults(words):
@@ -62,6 +65,8 @@ def hint(word, known):
 def no_command(word, rest):
     if word in HELPS:
         return f"no command {word}: {NOTHING}"
+    if word == "xg_close":
+        return f"no command xg_close: it is a program of its own, {CLOSE}"
     later = next((it for it in rest if it in COMMANDS), None)
     if later:
         return f"the command stands first, {later} before {word}"
@@ -93,6 +98,8 @@ def option_faults(command, words):
 def no_option(command, name, known):
     if name in HELPS:
         return f"no option {name}: {NOTHING}"
+    if name in OF_CLOSE:
+        return f"no option {name}: it is one of xg_close, {CLOSE}"
     if name in ("-", "--") or not re.fullmatch(r"--?[a-zA-Z]+", name):
         return f"{name} is taken for an option; a file whose name begins with - is written ./{name}"
     if name in RANGES:
