@@ -30,8 +30,8 @@ def anchor_of(heading):
 
 
 def imported_words(crate):
-    """What the sources of a crate take from definitions, by the names that its clauses have. A file of definitions with a
-    name of its own stands there with a point, and is no word."""
+    """What the sources of a crate take from definitions, by the names that its clauses have. A file of definitions with
+    a name of its own stands there with a point, and is no word."""
     words = {}
     for source in sorted((ROOT / "crates" / crate / "src").glob("**/*.rt")):
         text = source.read_text()

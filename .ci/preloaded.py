@@ -1,5 +1,5 @@
-"""Calls of a program with a library of this folder before the C library: calls of the system that fail, and what is asked
-of it."""
+"""Calls of a program with a library of this folder before the C library: calls of the system that fail, and what is
+asked of it."""
 import os
 import struct
 
@@ -39,8 +39,8 @@ class Counts:
         self.library, self.file, self.program = built("counts", folder), folder / "counts", program
 
     def of(self, words, ends=(0,)):
-        """The requests for memory of a call, their bytes, the threads that it started, and the most at one time. It ends
-        with one of these statuses."""
+        """The requests for memory of a call, their bytes, the threads that it started, and the most at one time. It
+        ends with one of these statuses."""
         env = {**os.environ, "LD_PRELOAD": str(self.library), "COUNTS": str(self.file)}
         status, _, said = call(words, program=self.program, env=env)
         assert status in ends and said == b"", (words, status, said)

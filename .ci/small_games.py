@@ -10,11 +10,12 @@ SUMS = (Fraction(0), Fraction(3), Fraction(0), Fraction(-5, 4))
 
 
 class SmallGame:
-    """A game as nested nodes, as a file, and each player's sets in the order of their first nodes. `sum` is what each leaf
-    pays both players together.
+    """A game as nested nodes, as a file, and each player's sets in the order of their first nodes. `sum` is what each
+    leaf pays both players together.
 
-    A node is a leaf (player one's payoff), or a kind (0 chance, 1, 2), the number of its set, and its children. `sets[player]` has
-    for each number how many actions the set has; `chances` has the probabilities of each chance set."""
+    A node is a leaf (player one's payoff), or a kind (0 chance, 1, 2), the number of its set, and its children.
+    `sets[player]` has for each number how many actions the set has; `chances` has the probabilities of each chance
+    set."""
 
     def __init__(self, seed):
         self.random, self.sum = random.Random(seed), SUMS[seed % len(SUMS)]

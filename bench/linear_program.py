@@ -1,5 +1,5 @@
-"""The plans of a game by a linear program (Koller, Megiddo and von Stengel 1996), in doubles: HiGHS, by SciPy where that is
-there. What it finds is no certificate; its width is that of its own plans, in doubles too."""
+"""The plans of a game by a linear program (Koller, Megiddo and von Stengel 1996), in doubles: HiGHS, by SciPy where
+that is there. What it finds is no certificate; its width is that of its own plans, in doubles too."""
 import resource
 
 try:

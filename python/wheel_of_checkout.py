@@ -1,4 +1,5 @@
-"""Builds the wheel of xgsolve by the standard library alone, so that `pip install` needs no network and no other package.
+"""Builds the wheel of xgsolve by the standard library alone, so that `pip install` needs no network and no other
+package.
 
 The wheel has the package and, beside it, the modules of ../tools/lib, which the scripts of tools/ stand on too: each of
 them is one file of the repository. An editable install leaves both where they are.

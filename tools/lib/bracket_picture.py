@@ -58,8 +58,8 @@ def number(value):
 
 
 def told_marks(marks):
-    """What is said of marks, and above which number that counts, or an empty text: of numbers that have to be long to be
-    told apart, how much each is above the first."""
+    """What is said of marks, and above which number that counts, or an empty text: of numbers that have to be long to
+    be told apart, how much each is above the first."""
     step = min((later - mark for mark, later in zip(marks, marks[1:])), default=0)
     largest = max(map(abs, marks), default=0)
     if not step or largest < step * 10**MOST_DIGITS:
@@ -118,7 +118,8 @@ def frame(canvas, x_axis, y_axis, units):
 
 
 def for_player_two(text, player):
-    """What a text's bracket says of player two's own payoff, or None where that is player one's with the sign turned."""
+    """What a text's bracket says of player two's own payoff, or None where that is player one's with the sign
+    turned."""
     if text.sum == 0:
         return None
     least = bound("LOW", text.bracket_of_two()[0])
