@@ -7,12 +7,13 @@ import tempfile
 from fractions import Fraction
 
 from checks import ROOT
+import limit_games
 from small_games import profile_of, small_games
 from tool_calls import tool
 
-import certificate  # noqa: E402
-import efg  # noqa: E402
-import plans  # noqa: E402
+import certificate
+import efg
+import plans
 
 GAMES, TEXTS = ROOT / "games", ROOT / ".ci" / "tool_texts"
 KUHN = GAMES / "kuhn_poker.efg"
@@ -180,7 +181,7 @@ SUMS = [
     (" ".join(["0.09"] * 10), None, False),
 ]
 # A game and the line of a fault of its numbers.
-PROLOGUE = b'EFG 2 R "" { "A" "B" }\n'
+PROLOGUE = limit_games.PROLOGUE.encode()
 BIG = b"4611686018427387904"
 FAULTS = [
     (b'c "" 1 { "a" 3/2 "b" -1/2 } 0 t "" 0 t "" 0', b"refused 15 ChanceNegative node 1"),
@@ -191,7 +192,10 @@ FAULTS = [
     (b'p "" 1 1 { "x" "y" } 0 t "" 0 p "" 1 2 { "x" } 1 { 1 -1 } t "" 2 { 1 -2 }', b"refused 17 NotConstantSum node 4"),
     (b't "" 1 { %s 1 }' % BIG, b"refused 19 Scale node 1"),
     (b'p "" 1 1 { "x" "y" } 0 t "" 0 t "" 1 { %s 1 }' % BIG, b"refused 19 Scale node 3"),
-    (b'p "" 1 1 { "x" } 0 c "" 1 { "a" 1/2 "b" 1/2 } 0 t "" 1 { 1 4611686018427387903 } t "" 1', b"refused 19 Scale node 3"),
+    (
+        b'p "" 1 1 { "x" } 0 c "" 1 { "a" 1/2 "b" 1/2 } 0 t "" 1 { 1 4611686018427387903 } t "" 1',
+        b"refused 19 Scale node 3",
+    ),
     (b'p "" 1 1 { "a" "b" } 0 p "" 1 1 0' + b' t "" 0' * 3, b"refused 18 NotRecall node 2 earlier 1"),
     (b'p "" 1 1 { "x" } 1 { %s -%s } t "" 2 { %s -%s }' % (BIG, BIG, BIG, BIG), b"refused 19 Scale node 2"),
     (b'p "" 1 1 { "x" "y" } 0 t "" 1 { %s -%s } t "" 2 { 1 -1 }' % (BIG, BIG), b"refused 19 Scale node 3"),
@@ -223,9 +227,14 @@ def round_trips(checks):
         checks.that(f"{name}, the replies", same_ends(old, new), "they differ")
 
 
+def game_of(text):
+    """The game of a text of .ci/tool_texts."""
+    return GAMES / f"{text.name.split('.')[0].split('_version')[0]}.efg"
+
+
 def tables(checks, folder):
     """A table that was printed of a text comes back with its plans: of texts, of strange names, of random games."""
-    texts = [(GAMES / f"{it.name.split('.')[0].split('_version')[0]}.efg", it.read_bytes()) for it in TEXTS.glob("*.xg*")]
+    texts = [(game_of(it), it.read_bytes()) for it in TEXTS.glob("*.xg*")]
     for game, told in texts:
         _, table, said = tool("plan_table", "--csv", game, stdin=told)
         checks.that(f"a table of {game.name}", said == b"" and table.startswith(COLUMNS), f"{table} {said}")
@@ -262,7 +271,7 @@ def same_plans(checks, what, told, status, out, said):
 def texts(checks, folder):
     """A text of `solve` or `plus` as it stands becomes a certificate of its plans, or of one of them."""
     for file in sorted(TEXTS.glob("*.xg*")):
-        game, told = GAMES / f"{file.name.split('.')[0].split('_version')[0]}.efg", file.read_bytes()
+        game, told = game_of(file), file.read_bytes()
         made = tool("certify", game, "--text", file)
         same_plans(checks, f"{file.name} by --text", told, *made)
         from_stream = tool("certify", "--text", "-", game, stdin=told)
@@ -309,7 +318,7 @@ def texts_that_differ(checks, folder):
 def objects(checks, folder):
     """What a text says as an object is what stands in its lines."""
     for file in sorted(TEXTS.glob("*.xg*")):
-        game_file = GAMES / f"{file.name.split('.')[0].split('_version')[0]}.efg"
+        game_file = game_of(file)
         status, out, said = tool("plan_table", "--json", game_file, file)
         checks.expect(f"{file.name} as an object", (status, said), 0, b"")
         told, text = json.loads(out), certificate.read_text(file.read_bytes())
@@ -432,7 +441,8 @@ def forms(checks, folder):
         near = abs(text.low - low) < Fraction(1, 10**6) and abs(text.high + Fraction(1, 18)) < Fraction(1, 10**6)
         checks.that(name, status == 0 and near, f"{text.low} {text.high}")
     equal = tool("certify", KUHN, GAMES / "kuhn_equilibrium.csv")
-    checks.that("an equilibrium is certified exactly", b"\nbracket -1/18 -1/18\nsecond 1/18 1/18\nend\n" in equal[1], equal[1].decode())
+    ends = b"\nbracket -1/18 -1/18\nsecond 1/18 1/18\nend\n"
+    checks.that("an equilibrium is certified exactly", ends in equal[1], equal[1].decode())
     profiles = (b"NE,1/2,0,1/2,0,1,0,1", NAMES_FORMS[8][1].encode())
     alone = [tool("certify", "--player=2", file, stdin=it) for it in profiles]
     checks.that("one player's numbers, or both", alone[0][0] == 0 and alone[0] == alone[1], f"{alone}")
@@ -454,7 +464,8 @@ def refusals(checks, folder):
         checks.that(f"{profile!r} is refused", (status, out) == (1, b"") and is_line, f"{status} {line}, want {why}")
     for data, line in FAULTS:
         file.write_bytes(PROLOGUE + data)
-        checks.expect(line.decode(), tool("certify", file, stdin=b"NE"), 1, b"", b"certify: %s: %s\n" % (bytes(file), line))
+        said = b"certify: %s: %s\n" % (bytes(file), line)
+        checks.expect(line.decode(), tool("certify", file, stdin=b"NE"), 1, b"", said)
     file.write_bytes(b"\xef\xbb\xbf" + NAMES)
     refused = tool("certify", file, stdin=b"NE")
     checks.expect("a game file with a mark", refused, 1, b"", b"certify: %s: refused 2 Syntax at 0\n" % bytes(file))
@@ -504,7 +515,8 @@ def rounding(checks, folder):
         checks.that(f"the root of {told}", all(it.encode() in out for it in lines), out.decode())
         checks.that(f"{told} isn't rounded", said == NOTHING, said.decode())
     # Two primes past the rounds: a root below the greatest, and no scale has it.
-    out = tool("certify", file, stdin=f"NE,1/{131_101 * 131_111},0,{131_101 * 131_111 - 1}/{131_101 * 131_111}".encode())
+    whole = 131_101 * 131_111
+    out = tool("certify", file, stdin=f"NE,1/{whole},0,{whole - 1}/{whole}".encode())
     checks.that("a root of no scale", b" scale 1048576\n" in out[1] and out[2] == NO_BOUND, f"{out}")
     for game in sorted(GAMES.glob("*.efg")):
         sets = efg.read_game(game.read_bytes()).sets

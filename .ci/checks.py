@@ -1,23 +1,31 @@
-"""What the checks through the built program share: its calls, the texts it says, and the count of what passed."""
+"""What the checks share: calls of the built program, the texts it says, parts of pages, and the count of what passed.
+Behind this module those of tools/lib and of bench can be imported."""
+import json
 import pathlib
+import re
 import shutil
 import signal
 import subprocess
 import sys
+import tempfile
 
 sys.dont_write_bytecode = True
+ROOT = pathlib.Path(__file__).resolve().parent.parent
+sys.path[1:1] = [str(ROOT / "tools" / "lib"), str(ROOT / "bench")]
 from named_games import game  # noqa: E402
 
 # A check in the background ignores the keyboard's signal, and so would what it calls.
 signal.signal(signal.SIGINT, signal.default_int_handler)
 
-ROOT = pathlib.Path(__file__).resolve().parent.parent
 LAUNCHER = ROOT / "bin" / "xg_solve"
+VERSION = (ROOT / "VERSION").read_text().strip()
+GAMES = sorted((ROOT / "games").glob("*.efg"))
+KUHN, BLUFF, NETWORKS, TOLL = (ROOT / "games" / f"{it}.efg" for it in ("kuhn_poker", "bluff", "networks", "toll"))
 
 
 def built_program(name):
-    """Where a program is. The toolchain's gate makes the first, and tools/prove.py both, of which a gate that was cut off
-    leaves the second."""
+    """Where a program is. The toolchain's gate makes the first, and tools/prove.py both, of which a gate that was cut
+    off leaves the second."""
     places = (ROOT / "crates" / name / "out" / name, ROOT / "out" / name)
     return next((it for it in places if it.exists()), places[0])
 
@@ -88,6 +96,28 @@ def solve(file):
     return ["solve", file, "--rounds", "0"]
 
 
+def settings(rounds, every, scale):
+    """The options of rounds."""
+    return [f"--rounds={rounds}", f"--every={every}", f"--scale={scale}"]
+
+
+def rows_of(name):
+    """The rows of a check, which stand beside it."""
+    return json.loads((ROOT / ".ci" / f"{name}.json").read_text())
+
+
+def indented(page, first):
+    """The indented lines of a page that begin with this one."""
+    lines = (ROOT / "docs" / page).read_text()
+    return re.search(rf"^    {re.escape(first)}\n(?:    .*\n)*", lines, re.MULTILINE)[0].replace("    ", "").encode()
+
+
+def commands_of(page):
+    """The commands that a page shows, each with what stands under it."""
+    found = re.findall(r"^    \$ (.*)\n((?:    (?!\$ ).*\n)*)", page, re.M)
+    return [(command, re.sub("^    ", "", told, flags=re.M)) for command, told in found]
+
+
 class Checks:
     """Counts what passed, and says what did not."""
 
@@ -101,6 +131,14 @@ class Checks:
         self.passed, self.failed = self.passed + bool(holds), self.failed + (not holds)
         if not holds:
             print(f"{self.name}: {what}: {why}")
+
+    def run(self, parts, make=lambda _, folder: folder):
+        """Calls each part with a folder that goes then, or what is made in it; the status of the script."""
+        with tempfile.TemporaryDirectory() as name:
+            given = make(self, pathlib.Path(name))
+            for part in parts:
+                part(self, given)
+        return self.end()
 
     def end(self):
         print(f"{self.name}: {self.passed} passed, {self.failed} failed", flush=True)

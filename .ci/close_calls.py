@@ -1,18 +1,15 @@
-"""Calls of `xg_close`, and all that must hold of each answer: its text by both checkers, its width, and each line of its
-progress."""
+"""Calls of `xg_close`, and all that must hold of each answer: its text by both checkers, its width, and each line of
+its progress."""
 import re
-import sys
 from fractions import Fraction
 
-from checks import ROOT, built_program, call
-from tool_calls import expect_both, tool
+from checks import built_program, call
+from tool_calls import accepted, expect_both, tool
 
 import certificate
+import closing
 import efg
 import sequence_form
-
-sys.path.insert(0, str(ROOT / "bench"))
-import closing  # noqa: E402
 
 PROGRAM = built_program("xg_close")
 WIDE, ENOUGH = 6, 0
@@ -100,12 +97,11 @@ class Closing:
     def accepted(self, what, answer):
         """Both checkers accept the text with its bracket, and `upgrade` leaves it as it is."""
         self.certificate.write_bytes(answer.out)
-        bracket = f"accepted {answer.text.low} {answer.text.high}"
-        expect_both(self.checks, f"{what}: checked", self.game, self.certificate, bracket)
+        expect_both(self.checks, f"{what}: checked", self.game, self.certificate, accepted(answer.text))
 
     def progress(self, what, answer, width, rounds, is_given=True):
-        """Each line is true of the bracket then, which never widens, and the last one is on the bracket that is printed. The
-        width that is given is said exactly, and another one nearly."""
+        """Each line is true of the bracket then, which never widens, and the last one is on the bracket that is
+        printed. The width that is given is said exactly, and another one nearly."""
         said = answer.said.decode()
         lines = LINE.findall(said)
         whole = "".join(match[0] for match in LINE.finditer(said)) == said

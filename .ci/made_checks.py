@@ -3,15 +3,14 @@ actions that lead there, and what equal chances concede, as it is published."""
 import tempfile
 from fractions import Fraction
 
-from checks import ROOT
+from checks import KUHN
 from tool_calls import tool
 
-import certificate  # noqa: E402
-import efg  # noqa: E402
-import made_games  # noqa: E402
-import sequence_form  # noqa: E402
+import certificate
+import efg
+import made_games
+import sequence_form
 
-KUHN = ROOT / "games" / "kuhn_poker.efg"
 # Games with their nodes, their leaves and both players' sets, by counting. In Leduc poker a player has three turns in a
 # round, and five ways lead from the first round to the second: of 3 ranks 3 * (3 + 3 * 5 * 3) sets.
 SIZES = [

@@ -1,8 +1,6 @@
-"""The text of rounds, played a second time in Python by "The rounds" of docs/certificate.md, and nothing of the program:
-those of `solve`, and those of `plus`."""
+"""The text of rounds, played a second time in Python by "The rounds" of docs/certificate.md, and nothing of the
+program: those of `solve`, and those of `plus`."""
 from fractions import Fraction
-
-from tool_calls import tool  # noqa: F401  (it finds tools/lib)
 
 import certificate
 import efg

@@ -9,9 +9,9 @@ from named_games import game
 from small_games import small_games
 from tool_calls import tool
 
-import efg  # noqa: E402
-import promises  # noqa: E402
-import sequence_form  # noqa: E402
+import efg
+import promises
+import sequence_form
 
 KUHN = (ROOT / "games" / "kuhn_poker.efg").read_bytes()
 # Matching pennies for one coin, a choice between two tosses of one coin, and three ways of which player two sees the

@@ -11,12 +11,12 @@ from made_checks import equal_profile
 from small_games import profile_of, small_games
 from tool_calls import in_version, tool
 
-import certificate  # noqa: E402
-import efg  # noqa: E402
-import losses  # noqa: E402
-import report_tree  # noqa: E402
-import report_words  # noqa: E402
-import sequence_form  # noqa: E402
+import certificate
+import efg
+import losses
+import report_tree
+import report_words
+import sequence_form
 
 GAMES, TEXTS = ROOT / "games", ROOT / ".ci" / "tool_texts"
 KUHN, KUHN_TEXT = GAMES / "kuhn_poker.efg", TEXTS / "kuhn_poker.xgcert"
@@ -213,7 +213,8 @@ def what_is_said(checks, folder):
     checks.that("what loses most stands first", len(lost) == 4 and lost == sorted(lost, reverse=True), f"{lost}")
     plain = tool("report", "--text", NETWORKS, TEXTS / "networks.xgcert")[1].decode()
     # LOW is about 44.2917, and HIGH 48.04996.
-    rows = [r"51\.950042 +\S+ +100 less HIGH, in Second's payoff: Second's plan gets at least this against every plan of First",
+    rows = [r"51\.950042 +\S+ +100 less HIGH, in Second's payoff: "
+            "Second's plan gets at least this against every plan of First",
             r"55\.708336 +\S+ +100 less LOW, in Second's payoff: no plan of Second is sure of more than this"]
     said = "At each end both payoffs add up to 100: Second gets 100 less what First gets."
     checks.that("what payoffs add up to", said in " ".join(plain.split()), plain)
@@ -269,7 +270,8 @@ def who_is_at_fault(checks, page, wrong):
     checks.that("the verdict", is_there and list(map(texts_of, verdict)) == wanted, f"{verdict}, want {wanted}")
     plain = " ".join(tool("report", "--text", KUHN, stdin=wrong)[1].decode().split())
     checks.that("the verdict in plain text", " ".join(wanted) in plain, plain)
-    checks.that("the rule of rounding", all("Rounding: LOW and other lower ends down; HIGH and other upper ends up," in it for it in (plain, texts_of(page))), plain)
+    rule = "Rounding: LOW and other lower ends down; HIGH and other upper ends up,"
+    checks.that("the rule of rounding", all(rule in it for it in (plain, texts_of(page))), plain)
     folded = [it for it in page.iter(f"{HTML}details") if it.find(f"{HTML}table") is not None]
     told = [texts_of(it[0]) for it in folded]
     wanted = ["4 more sets at which Second's plan gives nothing away",

@@ -7,10 +7,9 @@ import pathlib
 import signal
 import sys
 
-from checks import ROOT, call
+from checks import ROOT, call, settings
 
-sys.path.insert(0, str(ROOT / "tools" / "lib"))
-import certificate  # noqa: E402
+import certificate
 
 LOADED = {}
 
@@ -52,6 +51,11 @@ def in_version(number, data):
     return certificate.text_of(text)
 
 
+def accepted(text):
+    """What both checkers answer to a text that they accept."""
+    return f"accepted {text.low} {text.high}" if text.rounds else "accepted no bounds"
+
+
 def expect_both(checks, what, game, file, answer):
     """The program and the other checker have this answer to a certificate; and `upgrade` is refused alike, or writes
     version 2 of it."""
@@ -73,6 +77,9 @@ class Files:
     def call(self, command, *words):
         return call([command, str(self.game), *map(str, words)])
 
+    def play(self, command, rounds, every, scale, *words):
+        return self.call(command, *settings(rounds, every, scale), *words)
+
     def check(self, what, answer):
         """Both checkers have this answer, and `upgrade` is refused alike."""
         expect_both(self.checks, what, self.game, self.certificate, answer)
@@ -91,6 +98,5 @@ class Files:
     def accepted(self, what, data):
         """A text comes back from the tools, and is accepted with its bracket."""
         read = self.comes_back(what, data)
-        bracket = "no bounds" if read.low is None else f"{read.low} {read.high}"
-        self.check_text(f"{what}, checked", data, f"accepted {bracket}")
+        self.check_text(f"{what}, checked", data, accepted(read))
         return read

@@ -18,7 +18,6 @@ Poker with one card each is the game of `drill`; Leduc poker is played with so m
 two of each rank. A line says what was measured, the measure and its bound; the last line counts what passed and failed,
 and the status is 1 where something failed.
 """
-import argparse
 import functools
 import os
 import pathlib
@@ -29,6 +28,8 @@ import tempfile
 
 from reading import PROGRAM
 from solving import MOST_ROUNDS, SLOWER, Failed, Report, Solver, Writer, poker, streets
+
+import command_line
 
 KINDS = {"words": ["4", "--atomic", "1"], "locks": ["4", "--atomic", "0"], "one": ["1"]}
 # What has never fewer rounds a second is given a tenth, as two measurements of one program differ.
@@ -155,7 +156,7 @@ def is_same_text(program, path):
 
 
 def main():
-    parser = argparse.ArgumentParser(description=__doc__, formatter_class=argparse.RawDescriptionHelpFormatter)
+    parser = command_line.parser(__doc__)
     parser.add_argument("program", metavar="PROGRAM", nargs="?", default=str(PROGRAM))
     parser.add_argument("--runs", metavar="N", type=int, default=9)
     parser.add_argument("--seconds", metavar="S", type=float, default=0.5)

@@ -3,19 +3,19 @@
 
 Usage: python3 bench/batch.py [PROGRAM] [--runs N] [--seconds S]
 
-PROGRAM is the built one where nothing else is given. Of two games, poker with one card each and one with many sets, eight
-files are solved in one call of `batch` with four workers; in turn, by eight calls of `solve` with one worker, four at a time;
-and by these calls one after the other. There are so many rounds that one call of `solve` takes S seconds (0.6 where nothing
-else is said). What is compared with the bound is the median of the ratios of N turns (9), each of times that pass, from the
-start of the first process to the end of the last. How much faster `batch` is than the calls one after the other has no
-bound: it is what the processors are worth, four times where four are idle. So run it with nothing else at work.
+PROGRAM is the built one where nothing else is given. Of two games, poker with one card each and one with many sets,
+eight files are solved in one call of `batch` with four workers; in turn, by eight calls of `solve` with one worker,
+four at a time; and by these calls one after the other. There are so many rounds that one call of `solve` takes S
+seconds (0.6 where nothing else is said). What is compared with the bound is the median of the ratios of N turns (9),
+each of times that pass, from the start of the first process to the end of the last. How much faster `batch` is than the
+calls one after the other has no bound: it is what the processors are worth, four times where four are idle. So run it
+with nothing else at work.
 
 The memory of `batch`, the greatest that was resident, is to be at most that of the eight calls together.
 
-A line says what was measured, the measure and its bound; the last line counts what passed and failed, and the status is 1
-where something failed.
+A line says what was measured, the measure and its bound; the last line counts what passed and failed, and the status is
+1 where something failed.
 """
-import argparse
 import concurrent.futures
 import os
 import pathlib
@@ -27,6 +27,8 @@ import time
 
 from reading import PROGRAM, run
 from solving import MOST_ROUNDS, Failed, Report, poker, streets
+
+import command_line
 
 FILES, AT_A_TIME = 8, 4
 TIME_RATIO, MEMORY_RATIO = 1.1, 1.0
@@ -105,7 +107,7 @@ def measure(report, name, writer, folder, given):
 
 
 def main():
-    parser = argparse.ArgumentParser(description=__doc__, formatter_class=argparse.RawDescriptionHelpFormatter)
+    parser = command_line.parser(__doc__)
     parser.add_argument("program", metavar="PROGRAM", nargs="?", default=str(PROGRAM))
     parser.add_argument("--runs", metavar="N", type=int, default=9)
     parser.add_argument("--seconds", metavar="S", type=float, default=0.6)

@@ -1,5 +1,6 @@
 #!/usr/bin/env python3
-"""Measures on the built program how certificates are checked and upgraded: time and memory as they and their games grow.
+"""Measures on the built program how certificates are checked and upgraded: time and memory as they and their games
+grow.
 
 Usage: python3 bench/checking.py [PROGRAM] [--runs N] [--work] [--only WORD] [--beside OTHER]
 
@@ -14,7 +15,6 @@ version 1 and upgraded, in turn with checking it.
 With OTHER, which takes the same words, each kind's largest certificate is also checked with it, in turn, and the ratio
 of the times is printed, ours over the other's: it has no bound. Both are to print the same line.
 """
-import argparse
 import os
 import pathlib
 import re
@@ -25,6 +25,8 @@ import tempfile
 
 from reading import MOST_NODES, PROGRAM, file_of, run, wide
 from solving import Report, poker, streets
+
+import command_line
 
 MOST_CERT_BYTES = 268_435_456
 GROWTH, MEMORY, WORDS, UPGRADE = 2.3, 6.0, 10.0, 2.0
@@ -239,7 +241,7 @@ class Bench:
 
 
 def main():
-    parser = argparse.ArgumentParser(description=__doc__, formatter_class=argparse.RawDescriptionHelpFormatter)
+    parser = command_line.parser(__doc__)
     parser.add_argument("program", metavar="PROGRAM", nargs="?", default=str(PROGRAM))
     parser.add_argument("--runs", metavar="N", type=int, default=5)
     parser.add_argument("--work", action="store_true")

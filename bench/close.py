@@ -1,6 +1,6 @@
 #!/usr/bin/env python3
-"""Measures how long `xg_close` takes to a width, beside `solve`, `plus`, another program and a linear program, and prints
-the tables of docs/closing.md.
+"""Measures how long `xg_close` takes to a width, beside `solve`, `plus`, another program and a linear program, and
+prints the tables of docs/closing.md.
 
 All of it is one run on one machine, the calls one after the other. The games are those of games/, one-card poker with 8
 and 64 cards, Leduc poker, liar's dice, goofspiel, a game of five streets and matrices. Widths are parts of the range of
@@ -28,7 +28,6 @@ from fractions import Fraction
 sys.dont_write_bytecode = True
 from reading import PROGRAM, ROOT  # noqa: E402
 
-sys.path += [str(ROOT / ".ci"), str(ROOT / "tools" / "lib")]
 import certificate  # noqa: E402
 import command_line  # noqa: E402
 import efg  # noqa: E402

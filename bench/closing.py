@@ -5,8 +5,8 @@ Usage: python3 bench/closing.py [PROGRAM] [--every E] [--runs N] [--folder FOLDE
 
 PROGRAM is the built one where nothing else is given. One-card poker with 3, 8, 16, 32 and 64 cards is solved by
 `drill`, and each game of FOLDER (games/ where nothing else is said) by `solve`, with one worker. For each number of
-rounds a row has both ends of the bracket, their distance, and the best of N runs' seconds, with all reading and writing.
-Decimals are rounded outward, so what is printed is a bracket, too.
+rounds a row has both ends of the bracket, their distance, and the best of N runs' seconds, with all reading and
+writing. Decimals are rounded outward, so what is printed is a bracket, too.
 
 Two more tables have `plus` beside `solve`, on the games of FOLDER and on the files of `gen` for those cards: how wide
 both brackets are after the same rounds, for each number of them, there of games of `make_game` too, and after the
@@ -19,7 +19,6 @@ A last table has what tools/promise says of the games of FOLDER beside HIGH less
 rounds that promise a hundredth of the range of payoffs. With --only some tables alone are printed: poker, games, plus
 or promises.
 """
-import argparse
 import os
 import pathlib
 import subprocess
@@ -29,10 +28,10 @@ from fractions import Fraction
 
 from reading import PROGRAM, ROOT, run
 
-sys.path.append(str(ROOT / "tools" / "lib"))
-import efg  # noqa: E402
-import promises  # noqa: E402
-import sequence_form  # noqa: E402
+import command_line
+import efg
+import promises
+import sequence_form
 
 CARDS = (3, 8, 16, 32, 64)
 POKER_ROUNDS = (10, 100, 1_000, 10_000)
@@ -41,8 +40,7 @@ SAME_ROUNDS = (10, 100, 1_000)
 PROMISED_ROUNDS = (100, 1_000, 65_536)
 MOST_PLUS_ROUNDS, MOST_ROUNDS, TIMED_ROUNDS = 2_048, 65_536, 8_192
 PAPER_GAMES = (("goofspiel", "4"), ("liars_dice", "3"), ("leduc",))
-MAKE_GAME = pathlib.Path(__file__).resolve().parent.parent / "tools" / "make_game"
-GAMES = pathlib.Path(__file__).resolve().parent.parent / "games"
+MAKE_GAME, GAMES = ROOT / "tools" / "make_game", ROOT / "games"
 
 
 def decimal(value, places, is_upward):
@@ -126,7 +124,8 @@ def same_time(program, files, given):
         seconds = time_of_rounds([program, "plus", file], MOST_PLUS_ROUNDS, given)
         of_a_round = time_of_rounds([program, "solve", file], TIMED_ROUNDS, given) / (TIMED_ROUNDS - 1)
         rounds = min(MOST_ROUNDS, 1 + round(seconds / of_a_round))
-        cells = [f"{1000 * seconds:.1f}", f"{MOST_PLUS_ROUNDS:,}", width(program, "plus", file, MOST_PLUS_ROUNDS, given.every)]
+        by_plus = width(program, "plus", file, MOST_PLUS_ROUNDS, given.every)
+        cells = [f"{1000 * seconds:.1f}", f"{MOST_PLUS_ROUNDS:,}", by_plus]
         cells += [f"{rounds:,}", width(program, "solve", file, rounds, given.every)]
         print(f"| {name} | {' | '.join(cells)} |", flush=True)
 
@@ -170,7 +169,7 @@ def paper_files(folder):
 
 
 def main():
-    parser = argparse.ArgumentParser(description=__doc__, formatter_class=argparse.RawDescriptionHelpFormatter)
+    parser = command_line.parser(__doc__)
     parser.add_argument("program", metavar="PROGRAM", nargs="?", default=str(PROGRAM))
     parser.add_argument("--every", metavar="E", type=int, default=10)
     parser.add_argument("--runs", metavar="N", type=int, default=5)

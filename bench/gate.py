@@ -22,7 +22,6 @@ them. A process that began and ended between two looks is counted, but for no cr
 A proof is `rattle build` or `check` in the crate's folder; with --test it is that of the tests. An edit is a check of a
 copy of the crate, and so is the check of the crate as it stands that its edits begin with, and the one that ends them.
 """
-import argparse
 import collections
 import dataclasses
 import json
@@ -38,6 +37,8 @@ import time
 
 sys.path.append(str(pathlib.Path(__file__).resolve().parent.parent / "tools" / "lib"))
 
+import command_line
+import crates
 import meter
 
 ROOT = pathlib.Path(__file__).resolve().parent.parent
@@ -284,22 +285,12 @@ def measure(command, log):
     }
 
 
-def crates_below():
-    """For each crate of the repository, those that it names; each comes after them."""
-    below = {}
-    for line in (ROOT / "crates.txt").read_text().splitlines():
-        name, colon, uses = line.partition("#")[0].partition(":")
-        if colon:
-            below[name.strip()] = [it for it in uses.split() if it in below]
-    return below
-
-
-def longest_chain(crates):
+def longest_chain(measured):
     """The crates whose proofs wait for one another the longest, each with the seconds that its proof or tests took."""
-    passed = lambda name, kind: crates[name][kind]["passed"] if name in crates else 0.0
+    passed = lambda name, kind: measured[name][kind]["passed"] if name in measured else 0.0
     chains = {}
-    for name, uses in crates_below().items():
-        length, chain = max((chains[it] for it in uses), default=(0.0, []))
+    for name, uses in crates.uses().items():
+        length, chain = max((chains[it] for it in uses if it in chains), default=(0.0, []))
         chains[name] = length + passed(name, "proof"), [*chain, (name, "proof", passed(name, "proof"))]
     ends = [*chains.values()]
     for length, chain in chains.values():
@@ -327,11 +318,11 @@ def add_up(measured, kind):
 def table(measured, before):
     """The rows of the table, as texts: what each column is, each crate in the order of crates.txt, and all."""
     yield ["crate", *KINDS, "all", *["before"] * bool(before), "tried", "proof at", "tests at", "edits at"]
-    crates, old = measured["crates"], before["crates"] if before else {}
-    known = [*crates_below()]
-    names = sorted({*crates, *old}, key=lambda it: (known.index(it) if it in known else len(known), it))
+    rows, old = measured["crates"], before["crates"] if before else {}
+    known = [*crates.uses()]
+    names = sorted({*rows, *old}, key=lambda it: (known.index(it) if it in known else len(known), it))
     for name in names:
-        row = crates.get(name) or new_row()
+        row = rows.get(name) or new_row()
         was = [minutes(all_of(old[name])) if name in old else ""] * bool(before)
         took, spans = [minutes(row[it]["took"]) for it in KINDS], [span(row[it]) for it in KINDS[:3]]
         yield [name, *took, minutes(all_of(row)), *was, str(measured["edits"].get(name, 0) or ""), *spans]
@@ -368,7 +359,7 @@ def meter_rows(measured):
     """The rows of the meter's table, as texts: each crate for which something is kept, and all of them."""
     yield ["crate", "MB", "meter", *["proof", "ratio"] * bool(measured)]
     sums = [0.0, 0.0, 0.0]
-    for name, below in all_below().items():
+    for name, below in crates.below().items():
         kept = meter.kept(name)
         row = measured["crates"].get(name) if measured else None
         if kept is None or measured and not row:
@@ -385,14 +376,6 @@ def meter_row(name, found, measured):
     return [name, f"{kept:.1f}", minutes(told), *([minutes(took), ratio] if measured else [])]
 
 
-def all_below():
-    """For each crate of the repository, all that it stands on."""
-    found = {}
-    for name, uses in crates_below().items():
-        found[name] = set(uses).union(*(found[it] for it in uses))
-    return found
-
-
 def print_rows(rows):
     rows = [*rows]
     widths = [max(map(len, column)) for column in zip(*rows)]
@@ -405,7 +388,7 @@ def read(file):
 
 
 def main():
-    parser = argparse.ArgumentParser(description=__doc__, formatter_class=argparse.RawDescriptionHelpFormatter)
+    parser = command_line.parser(__doc__)
     parser.add_argument("command", metavar="COMMAND", nargs="*", default=["rt", "ci"])
     parser.add_argument("--save", metavar="FILE")
     parser.add_argument("--from", metavar="FILE", dest="saved")

@@ -3,17 +3,17 @@
 
 Usage: python3 bench/plus.py [PROGRAM] [--runs N] [--seconds S] [--only WORD]
 
-PROGRAM is the built one where nothing else is given. Each game, of some 20,000 to 580,000 leaves, is played by `plus` and
-by `solve`, both with `--workers 1 --scale 16384`, with one round and with many; the difference of the processor's times is
-that of the rounds between, so that reading the game and writing the text drop out of it. There are so many rounds that
-this is S seconds (0.5 where nothing else is said) and half of the run with one round, at most 2,048. In each of N turns (9)
-both commands are run, in every other turn the other one first; what is compared with the bound is the median of the turns'
-ratios. One thread's processor time is the same on a busy machine, but for what others take of the caches.
+PROGRAM is the built one where nothing else is given. Each game, of some 20,000 to 580,000 leaves, is played by `plus`
+and by `solve`, both with `--workers 1 --scale 16384`, with one round and with many; the difference of the processor's
+times is that of the rounds between, so that reading the game and writing the text drop out of it. There are so many
+rounds that this is S seconds (0.5 where nothing else is said) and half of the run with one round, at most 2,048. In
+each of N turns (9) both commands are run, in every other turn the other one first; what is compared with the bound is
+the median of the turns' ratios. One thread's processor time is the same on a busy machine, but for what others take of
+the caches.
 
-A line says what was measured, the measure and its bound; the last line counts what passed and failed, and the status is 1
-where something failed.
+A line says what was measured, the measure and its bound; the last line counts what passed and failed, and the status is
+1 where something failed.
 """
-import argparse
 import os
 import pathlib
 import statistics
@@ -22,6 +22,8 @@ import tempfile
 
 from reading import PROGRAM, run
 from solving import Failed, Report, poker, streets
+
+import command_line
 
 MOST_ROUNDS = 2_048
 RATIO = 1.15
@@ -75,7 +77,7 @@ def measure(report, name, writer, path, given):
 
 
 def main():
-    parser = argparse.ArgumentParser(description=__doc__, formatter_class=argparse.RawDescriptionHelpFormatter)
+    parser = command_line.parser(__doc__)
     parser.add_argument("program", metavar="PROGRAM", nargs="?", default=str(PROGRAM))
     parser.add_argument("--runs", metavar="N", type=int, default=9)
     parser.add_argument("--seconds", metavar="S", type=float, default=0.5)

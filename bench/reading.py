@@ -3,15 +3,14 @@
 
 Usage: python3 bench/reading.py [--runs N] [--beside PROGRAM]
 
-Each line says what was measured, the measure and its bound; the last line counts what passed and failed, and the
-status is 1 where something failed. Times are the best of N runs (5 where nothing else is said). How they grow with the
-file is told by the processor's time, the best of four times as many runs, in which the sizes take turns: what changes
-the machine's speed for a while, or takes a processor away, then meets no size alone. User and system time are taken
+Each line says what was measured, the measure and its bound; the last line counts what passed and failed, and the status
+is 1 where something failed. Times are the best of N runs (5 where nothing else is said). How they grow with the file is
+told by the processor's time, the best of four times as many runs, in which the sizes take turns: what changes the
+machine's speed for a while, or takes a processor away, then meets no size alone. User and system time are taken
 together, since Linux counts their sum exactly and parts it by ticks of some milliseconds. With PROGRAM, which reads the
-same files for the same words, each kind of file is also measured with it, in turn, and the ratio is printed, of the time
-that passes and of the processor's time; it has no bound.
+same files for the same words, each kind of file is also measured with it, in turn, and the ratio is printed, of the
+time that passes and of the processor's time; it has no bound.
 """
-import argparse
 import os
 import pathlib
 import random
@@ -19,9 +18,12 @@ import resource
 import subprocess
 import sys
 import tempfile
-import time
 
 ROOT = pathlib.Path(__file__).resolve().parent.parent
+# Behind this module those of .ci and of tools/lib can be imported.
+sys.path += [str(ROOT / ".ci"), str(ROOT / "tools" / "lib")]
+import command_line  # noqa: E402
+
 PROGRAM = ROOT / "crates" / "xg_solve" / "out" / "xg_solve"
 MOST_NODES = 1_048_576
 SIZES = (131_072, 262_144, 524_288, MOST_NODES)
@@ -33,7 +35,8 @@ PROLOGUE = 'EFG 2 R "wide" { "A" "B" }\n'
 
 
 def wide(nodes, name=""):
-    """A game with so many nodes in a wide tree of depth 2: each inner node in a set of its own, each leaf with an outcome of its own."""
+    """A game with so many nodes in a wide tree of depth 2: each inner node in a set of its own, each leaf with an
+    outcome of its own."""
     inner, sizes = split(nodes)
     lines = [personal(1, 1, inner, name)]
     leaf = 0
@@ -63,7 +66,8 @@ def file_of(lines):
 
 
 def rounds_of_cards(nodes):
-    """A game with about so many nodes in which each mention of a set and an outcome has its whole description: chance deals three times, and then both players bet, who see no card."""
+    """A game with about so many nodes in which each mention of a set and an outcome has its whole description: chance
+    deals three times, and then both players bet, who see no card."""
     tables, seats = (nodes - 1) // 1_026, 41
     shuffle = f'c "" 1 "shuffle" {{ {" ".join([f"{chr(34)}t{chr(34)} 1/{tables}"] * tables)} }} 0'
     seat = f'c "" 2 "seat" {{ {" ".join([f"{chr(34)}s{chr(34)} 1/{seats}"] * seats)} }} 0'
@@ -77,7 +81,8 @@ def rounds_of_cards(nodes):
 
 
 def binary(nodes):
-    """A game with so many nodes, each inner one in a set of its own with two actions, each leaf with an outcome of its own with a name."""
+    """A game with so many nodes, each inner one in a set of its own with two actions, each leaf with an outcome of its
+    own with a name."""
     lines = []
     for k in range(nodes // 2):
         lines.append(f'p "" {1 + k % 2} {k + 1} "set {k}" {{ "left" "right" }} 0')
@@ -107,7 +112,8 @@ def chain(nodes, first, later):
 
 
 def colliding(count):
-    """So many numbers up to 2^62 that lie close together in a hash table whose hash is the toolchain's default, without a seed."""
+    """So many numbers up to 2^62 that lie close together in a hash table whose hash is the toolchain's default, without
+    a seed."""
     mask = 2**64 - 1
     groups = 1
     while 9 * groups < count:
@@ -124,19 +130,26 @@ def colliding(count):
 
 
 def far(nodes):
-    """So many nodes below one another, each but the last in a set of its own with a number of some sixty bits, in no order."""
+    """So many nodes below one another, each but the last in a set of its own with a number of some sixty bits, in no
+    order."""
     numbers = random.Random(7).sample(range(2**40, 2**62), nodes - 1)
     return file_of([f'p "" 1 {k} {{ "" }} 0' for k in numbers] + ['t "" 0'])
 
 
+def sets_of(numbers):
+    """A node of each of these sets, one below the other."""
+    return file_of([f'p "" 1 {number} {{ "" }} 0' for number in numbers] + ['t "" 0'])
+
+
 def hurtful():
     """Files that are made to hurt, by what they are, with the status of an answer."""
+    described = 'p "" 1 1 "set" { "on" } 0'
     return {
         "a million entries under one set": (chain(MOST_NODES, 'p "" 1 1 { "" } 0', 'p "" 1 1 0'), 1),
-        "a million repeated descriptions": (chain(MOST_NODES, 'p "" 1 1 "set" { "on" } 0', 'p "" 1 1 "set" { "on" } 0'), 1),
-        "a million sets whose numbers have the same low bits": (file_of([f'p "" 1 {k << 41} {{ "" }} 0' for k in range(1, MOST_NODES)] + ['t "" 0']), 0),
+        "a million repeated descriptions": (chain(MOST_NODES, described, described), 1),
+        "a million sets whose numbers have the same low bits": (sets_of(k << 41 for k in range(1, MOST_NODES)), 0),
         "a million sets whose numbers are far apart, in no order": (far(MOST_NODES), 0),
-        "sets whose numbers collide in a table without a seed": (file_of([f'p "" 1 {k} {{ "" }} 0' for k in colliding(2**16)] + ['t "" 0']), 0),
+        "sets whose numbers collide in a table without a seed": (sets_of(colliding(2**16)), 0),
         "a name of 60 MB": (file_of(['t "' + "x" * 60_000_000 + '" 0']), 0),
         "a name of 30 million quotation marks": (file_of(['t "' + '\\"' * 30_000_000 + '" 0']), 0),
         "an outcome of a million digits": (file_of(['t "" ' + "0" * 1_000_000]), 0),
@@ -154,7 +167,8 @@ begin = time.perf_counter()
 child = os.posix_spawnp(sys.argv[1], sys.argv[1:], os.environ,
     file_actions=[(os.POSIX_SPAWN_OPEN, fd, "/dev/null", os.O_WRONLY, 0) for fd in (1, 2)])
 _, status, usage = os.wait4(child, 0)
-print(time.perf_counter() - begin, usage.ru_maxrss * 1024, os.waitstatus_to_exitcode(status), usage.ru_utime + usage.ru_stime)
+passed, work = time.perf_counter() - begin, usage.ru_utime + usage.ru_stime
+print(passed, usage.ru_maxrss * 1024, os.waitstatus_to_exitcode(status), work)
 """
 
 
@@ -172,8 +186,8 @@ def best(words, runs, want):
 
 
 def best_in_turn(calls, runs, want):
-    """The best time, the most memory and the best processor's time of each call. The calls take turns, so that a change of
-    the machine's speed meets all of them."""
+    """The best time, the most memory and the best processor's time of each call. The calls take turns, so that a change
+    of the machine's speed meets all of them."""
     turns = [[run(words) for words in calls] for _ in range(runs)]
     for words, results in zip(calls, zip(*turns)):
         for result in results:
@@ -184,7 +198,7 @@ def best_in_turn(calls, runs, want):
 
 
 def main():
-    parser = argparse.ArgumentParser()
+    parser = command_line.parser(__doc__)
     parser.add_argument("--runs", type=int, default=5)
     parser.add_argument("--beside", metavar="PROGRAM")
     given = parser.parse_args()
@@ -215,14 +229,17 @@ def main():
         def against_other(what, path):
             if not beside:
                 return
-            turns = [[run([program, "solve", path, "--rounds", "0"]) for program in (str(PROGRAM), beside)] for _ in range(runs)]
-            time_ratio, work_ratio = (min(ours[k] for ours, _ in turns) / min(other[k] for _, other in turns) for k in (0, 3))
+            both = [[program, "solve", path, "--rounds", "0"] for program in (str(PROGRAM), beside)]
+            turns = [list(map(run, both)) for _ in range(runs)]
+            least = [[min(turn[who][k] for turn in turns) for who in (0, 1)] for k in (0, 3)]
+            time_ratio, work_ratio = (ours / other for ours, other in least)
             print(f"     {what}, against {beside}: {time_ratio:.2f} times the time, {work_ratio:.2f} times the work")
 
         def against_words(what, path, want):
             ours, memory = solve(path, want)
             words, _ = best(["wc", "-w", path], runs, 0)
-            report(f"{what}, against wc -w ({ours:.3f} s, {words:.3f} s, {memory} bytes of memory)", ours / max(words, 0.001), 6, "times")
+            beside_words = f"{what}, against wc -w ({ours:.3f} s, {words:.3f} s, {memory} bytes of memory)"
+            report(beside_words, ours / max(words, 0.001), 6, "times")
 
         for kind, make in (("wide", wide), ("cards", rounds_of_cards), ("binary", binary)):
             paths = {nodes: write(f"{kind}_{nodes}.efg", make(nodes - 1 + nodes % 2)) for nodes in SIZES}
@@ -239,7 +256,8 @@ def main():
 
         path = write("rare.efg", rare(200_000))
         seconds, memory = solve(path)
-        print(f"     200,000 leaves of rare deals, {os.path.getsize(path)} bytes: {seconds:.3f} s, {memory} bytes of memory")
+        size = os.path.getsize(path)
+        print(f"     200,000 leaves of rare deals, {size} bytes: {seconds:.3f} s, {memory} bytes of memory")
         path = write("long_names.efg", wide(524_288, "a name of a node that is somewhat longer"))
         against_words(f"long names, {os.path.getsize(path)} bytes", path, 0)
         against_other("long names", path)
@@ -248,7 +266,8 @@ def main():
 
         path = write("too_long.efg", b" " * (MOST_BYTES + 1))
         seconds, memory = solve(path, 1)
-        report(f"memory at {MOST_BYTES + 1} bytes, which are refused ({seconds:.3f} s)", memory / MOST_BYTES, 1.5, "times the file")
+        what = f"memory at {MOST_BYTES + 1} bytes, which are refused ({seconds:.3f} s)"
+        report(what, memory / MOST_BYTES, 1.5, "times the file")
     print(f"{passed} passed, {failed} failed")
     return 1 if failed else 0
 

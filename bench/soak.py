@@ -1,27 +1,26 @@
 #!/usr/bin/env python3
-"""Runs the program on games, texts and words that are made from a seed, for a time that is given, and tests what must hold
-of every answer whatever the input was. No other solver is asked.
+"""Runs the program on games, texts and words that are made from a seed, for a time that is given, and tests what must
+hold of every answer whatever the input was. No other solver is asked.
 
 Usage: python3 bench/soak.py [PROGRAM] [--close FILE] [--seconds N] [--seed N]
 
-PROGRAM is the built one where nothing else is given, FILE is run as `xg_close`, N is 60 seconds, and the seed is 1. Where
-no `xg_close` is there, its cases are left out. Half of the inputs are valid ones;
-the others have a byte, a word or a line that is changed, cut away or there twice. Each case is made from the seed and its
-number alone.
+PROGRAM is the built one where nothing else is given, FILE is run as `xg_close`, N is 60 seconds, and the seed is 1.
+Where no `xg_close` is there, its cases are left out. Half of the inputs are valid ones; the others have a byte, a word
+or a line that is changed, cut away or there twice. Each case is made from the seed and its number alone.
 
-What is tested: the status, standard output and standard error agree with one another; a text of `solve` or `drill` is read
-by tools/certificate.py, comes back byte for byte, and `check` accepts it in both versions with its bracket; a changed text
-is refused, or its bracket meets the bracket of the text that it was made from; `upgrade` is refused as `check` is, or writes
-version 2; `plus` is refused as `solve` is, or its text, which `check` refuses, has a bracket that meets that of `solve`;
-no bracket is wider than tools/promise says of its game; a batch has for each file what `solve` says of it; more workers
-print the same; `info` prints the numbers of the text; what `gen` writes is solved as `drill` does; `xg_close` refuses what
-`info` refuses, with its line, or its text is accepted in both versions, as narrow as is asked or not by its status, with
-true lines of progress, and its bracket meets that of `solve`; no call takes more memory or time than its bytes allow.
+What is tested: the status, standard output and standard error agree with one another; a text of `solve` or `drill` is
+read by tools/certificate.py, comes back byte for byte, and `check` accepts it in both versions with its bracket; a
+changed text is refused, or its bracket meets the bracket of the text that it was made from; `upgrade` is refused as
+`check` is, or writes version 2; `plus` is refused as `solve` is, or its text, which `check` refuses, has a bracket that
+meets that of `solve`; no bracket is wider than tools/promise says of its game; a batch has for each file what `solve`
+says of it; more workers print the same; `info` prints the numbers of the text; what `gen` writes is solved as `drill`
+does; `xg_close` refuses what `info` refuses, with its line, or its text is accepted in both versions, as narrow as is
+asked or not by its status, with true lines of progress, and its bracket meets that of `solve`; no call takes more
+memory or time than its bytes allow.
 
-A finding is shown with its case, and its files are kept. The last line counts what passed and failed, and the status is 1
-where something failed.
+A finding is shown with its case, and its files are kept. The last line counts what passed and failed, and the status is
+1 where something failed.
 """
-import argparse
 import collections
 import itertools
 import os
@@ -38,13 +37,13 @@ sys.dont_write_bytecode = True
 
 from reading import PROGRAM, ROOT  # noqa: E402
 
-sys.path += [str(ROOT / ".ci"), str(ROOT / "tools" / "lib")]
 from checks import NO_MEMORY, READ_FAULT, USAGE, WRITE_FAULT  # noqa: E402
 from close_calls import ENOUGH, USUAL_PART, WIDE, Answer as ClosedAnswer, Closing, payoff_span  # noqa: E402
 from close_calls import PROGRAM as CLOSE  # noqa: E402
 from small_games import SmallGame  # noqa: E402
 from tool_calls import in_version  # noqa: E402
 import certificate  # noqa: E402
+import command_line  # noqa: E402
 import efg  # noqa: E402
 from promises import promise  # noqa: E402
 
@@ -412,7 +411,7 @@ def run(soak, seed, seconds):
 
 
 def main():
-    parser = argparse.ArgumentParser(description=__doc__, formatter_class=argparse.RawDescriptionHelpFormatter)
+    parser = command_line.parser(__doc__)
     parser.add_argument("program", metavar="PROGRAM", nargs="?", default=str(PROGRAM))
     parser.add_argument("--close", metavar="FILE", default=str(CLOSE))
     parser.add_argument("--seconds", metavar="N", type=int, default=60)

@@ -23,7 +23,6 @@ With OTHER, which takes the same words, each game is also solved with it, in tur
 is printed, ours over the other's: it has no bound. The text of each game is to be the same byte for byte, and of the
 largest games the first round with its text is to take at most twice the other's time.
 """
-import argparse
 import os
 import pathlib
 import statistics
@@ -32,6 +31,8 @@ import sys
 import tempfile
 
 from reading import PROGRAM, run
+
+import command_line
 
 MOST_ROUNDS = 65_536
 # What is never slower is given a tenth, as two measurements of one program differ.
@@ -138,8 +139,8 @@ class Failed(Exception):
 
 
 class Solver:
-    """A program, with what was measured of it on one game: of each number of rounds the best time that passed and the best
-    processor's time, and of each turn both times of a round."""
+    """A program, with what was measured of it on one game: of each number of rounds the best time that passed and the
+    best processor's time, and of each turn both times of a round."""
 
     def __init__(self, program, workers, path):
         self.program, self.path, self.many = program, path, 2
@@ -179,8 +180,9 @@ class Solver:
         return max(times[self.many] - times[1], 1e-9) / (self.many - 1)
 
     def over(self, other):
-        """The time of a round over another's in the middle one of their turns, by the time that passes or the processor's,
-        whichever is better: what is slower is so by both, and what else the machine does changes them apart."""
+        """The time of a round over another's in the middle one of their turns, by the time that passes or the
+        processor's, whichever is better: what is slower is so by both, and what else the machine does changes them
+        apart."""
         return min(
             statistics.median(ours[clock] / theirs[clock] for ours, theirs in zip(self.turns, other.turns))
             for clock in (0, 1)
@@ -301,7 +303,7 @@ def tell_text(report, game, programs, given):
 
 
 def main():
-    parser = argparse.ArgumentParser(description=__doc__, formatter_class=argparse.RawDescriptionHelpFormatter)
+    parser = command_line.parser(__doc__)
     parser.add_argument("program", metavar="PROGRAM", nargs="?", default=str(PROGRAM))
     parser.add_argument("--runs", metavar="N", type=int, default=9)
     parser.add_argument("--seconds", metavar="S", type=float, default=0.3)

@@ -6,22 +6,19 @@ Usage: python3 bench/turns.py [--every E] [--scale D] [FILE ..]
 In a round of `plus` both players learn from the plans of that round. As published (Tammelin, Burch, Johanson and
 Bowling 2015) they learn in turn: player two from the plan that player one has just made. Here both are played in
 Python's whole numbers, with the same scale, roundings and weights of rounds, so turns are the one difference. For each
-FILE, or each game of games/ and those of `make_game` that docs/closing.md has, a row has HIGH less LOW after 10, 100 and
-1,000 rounds, rounded up, where the best plans of every E-th round are kept; E is 10 where nothing else is said, and the
-scale the greatest of `plus`.
+FILE, or each game of games/ and those of `make_game` that docs/closing.md has, a row has HIGH less LOW after 10, 100
+and 1,000 rounds, rounded up, where the best plans of every E-th round are kept; E is 10 where nothing else is said, and
+the scale the greatest of `plus`.
 """
-import argparse
 import pathlib
-import sys
 import tempfile
 
 from closing import GAMES, SAME_ROUNDS, decimal, paper_files
-from reading import ROOT
 
-sys.path += [str(ROOT / ".ci"), str(ROOT / "tools" / "lib")]
-import efg  # noqa: E402
-import sequence_form  # noqa: E402
-from played_again import Player, offered  # noqa: E402
+import command_line
+import efg
+import sequence_form
+from played_again import Player, offered
 
 MOST_SCALE = 16_384
 
@@ -63,7 +60,7 @@ def row(name, path, given):
 
 
 def main():
-    parser = argparse.ArgumentParser(description=__doc__, formatter_class=argparse.RawDescriptionHelpFormatter)
+    parser = command_line.parser(__doc__)
     parser.add_argument("files", metavar="FILE", nargs="*", help="game files")
     parser.add_argument("--every", metavar="E", type=int, default=10)
     parser.add_argument("--scale", metavar="D", type=int, default=MOST_SCALE)

@@ -31,6 +31,7 @@ import time
 
 sys.path.append(str(pathlib.Path(__file__).resolve().parent / "lib"))
 
+import crates
 import meter
 
 ROOT = pathlib.Path(__file__).resolve().parent.parent
@@ -47,17 +48,6 @@ MEMORY_OF_A_JOB = 2 << 30
 MOST_JOBS = 4
 # What is measured counts for as much as the meter once so many seconds of it are known.
 SECONDS_OF_TRUST = 60.0
-
-
-def crates_below():
-    """For each crate of the repository, those that it stands on; each comes after them."""
-    below = {}
-    for line in (ROOT / "crates.txt").read_text().splitlines():
-        name, colon, uses = line.partition("#")[0].partition(":")
-        if colon:
-            uses = [it for it in uses.split() if it in below]
-            below[name.split()[0]] = set(uses).union(*(below[it] for it in uses))
-    return below
 
 
 def jobs_at_once():
@@ -332,7 +322,7 @@ def keep_program():
 
 def prove():
     """Proves and builds all, and answers none, or what the toolchain said of what it refused."""
-    plan = Plan(crates_below(), jobs_at_once())
+    plan = Plan({name: set(it) for name, it in crates.below().items()}, jobs_at_once())
     progress, copies, running = Progress(plan), Copies(plan), []
     try:
         return prove_libraries(plan, progress, copies, running) or prove_program(plan, progress, copies.room)
