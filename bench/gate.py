@@ -12,7 +12,8 @@ edits were tried, and when each began and ended, in minutes that passed. The lin
 these (the gate itself, the layout, the repository's own checks), the time that passed, and the longest chain. The
 status is that of the command. --save writes the measures, --from prints those that were saved, and --before adds their
 column of all minutes. --meter runs nothing: it prints the megabytes that checks of each crate kept, the minutes of a
-proof that they stand for, and where measures are given the minutes of its proof in them, with the ratio.
+proof that they stand for, and where measures are given the minutes of its proof in them, with the ratio; and the crates
+of which nothing is kept.
 
 A minute is the processor's, as the system counts it, with all threads and all children that were waited for. The
 processes below the command are looked at once a second. What a check takes after it was last seen is known when the
@@ -222,6 +223,8 @@ class Edits:
             self.count[tried[1]] += 1
         elif kept := re.match(r"rt: (\w+): (\d+) of its \d+ must-fail edits were tried by an earlier run", line):
             self.count[kept[1]] -= int(kept[2])
+        elif tried := re.match(r"refused: edits of (\w+) that were tried: (\d+)", line):
+            self.count[tried[1]] += int(tried[2])
 
 
 def write_no_more():
@@ -399,6 +402,9 @@ def main():
     before = read(given.before)
     if given.meter:
         print_rows(meter_rows(read(given.saved)))
+        lacking = [name for name in crates.uses() if meter.kept(name) is None]
+        if lacking:
+            print(f"\nnothing is kept of {len(lacking)} crates, which aren't counted: {', '.join(lacking)}")
         return 0
     if given.saved:
         show(read(given.saved), before)
