@@ -8,7 +8,7 @@ use Rattle.def_sums.specs.Sum.{nat_sum_over}
 use Rattle.def_plan.specs.Form.{PlacedSet, sequences_of}
 use Rattle.def_round.specs.Shares.{weight_sum, prefix_sum, prefix_share, shares}
 use Rattle.def_round.proofs.SharesLaws.{are_differences, length-shares, prefix-all, prefix-more, shares_whole}
-use Rattle.def_round.specs.Play.{positive_part, regret_of, regret_sum}
+use Rattle.def_round.specs.Play.{positive_part, regret_of, regret_sum, units}
 use Rattle.def_round.proofs.Plays.{sum_of_map}
 use Rattle.xg_plan.proofs.ShareLemmas.{prefix-within, DealStep, step_of}
 use Rattle.xg_closer.specs.Playing.{positive_parts}
@@ -33,6 +33,14 @@ none_before n ws some = zero_over (weight_sum ws) some
   where
     zero_over : (sum : ℕ) → 1 ≤ sum → n * 0 / sum ≡ 0
     zero_over sum some = omega arith
+
+-- the last weight gets what the weights before it leave of n
+pub last_share : (n : ℕ) (ws : List ℕ) (i : ℕ) → i + 1 ≡ length ws → 1 ≤ weight_sum ws
+    → get_or (shares n ws) i 0 + prefix_share n ws i ≡ n
+last_share n ws i last some =
+    let all : prefix_sum ws (i + 1) ≡ weight_sum ws = ap (λ k. prefix_sum ws k) last ∙ prefix-all ws in
+    let whole : prefix_share n ws (i + 1) ≡ n = ap (λ c. n * c / weight_sum ws) all ∙ mul-div_left n some in
+    omega (arith, (are_differences n ws i (omega (arith, last))).by_weight some, whole)
 
 -- the share before it
 pub share_before : (n : ℕ) (ws : List ℕ) (i before sum : ℕ) → sum ≡ weight_sum ws → before ≡ prefix_sum ws i
@@ -63,12 +71,10 @@ two_shares n q ws two by_weight evenly =
     ⊎_elim
     (λ some.
     let one : prefix_sum ws 1 ≡ get_or ws 0 0 = omega (arith, prefix-more ws 0 (omega arith)) in
-    let all : prefix_sum ws 2 ≡ weight_sum ws = ap (λ k. prefix_sum ws k) (sym two) ∙ prefix-all ws in
     let at_one : prefix_share n ws 1 ≡ q = ap (λ c. n * c / weight_sum ws) one ∙ sym (by_weight some) in
-    let at_two : prefix_share n ws 2 ≡ n = ap (λ c. n * c / weight_sum ws) all ∙ mul-div_left n some in
     let first = (are_differences n ws 0 (omega arith)).by_weight some in
-    let second = (are_differences n ws 1 (omega arith)).by_weight some in
-    (omega (arith, first, none_before n ws some, at_one), omega (arith, second, at_one, at_two)))
+    let second = last_share n ws 1 (omega arith) some in
+    (omega (arith, first, none_before n ws some, at_one), omega (arith, second, at_one)))
     (λ none.
     let nothing : weight_sum ws ≡ 0 = omega arith in
     let half : q ≡ n * 1 / 2 = evenly nothing in
@@ -120,3 +126,11 @@ parts_of_two regrets h two =
       sum_more regrets h 1 (omega arith),
       ap (λ s. positive_part (regret_of regrets s)) first,
     )
+
+-- one positive part more of a set whose positive parts have a sum
+pub part_more : (regrets : List ℤ) (h : PlacedSet) (i before part sum : ℕ) → i < h.actions → 1 ≤ sum → sum ≡ regret_sum regrets h
+    → before ≡ prefix_sum (positive_parts regrets h) i → part ≡ positive_part (regret_of regrets (h.first + i))
+    → OneMore units (positive_parts regrets h) i (before + part) sum
+part_more regrets h i before part sum below some whole is at =
+    one_more units (positive_parts regrets h) i before part sum (omega (arith, below, length-positive_parts regrets h)) some
+    (whole ∙ parts_together regrets h) is (at ∙ part_at regrets h i below)

@@ -3,6 +3,7 @@
 
 mod closing;
 mod cutting;
+mod dividing;
 mod playing;
 mod regrets;
 mod worths;

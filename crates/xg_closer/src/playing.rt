@@ -8,10 +8,10 @@ ghost use Rattle.xg_closer.specs.Playing.{PlaysSet};
 ghost use Rattle.xg_seq.specs.Table.{most_sequences, placed_of_row};
 
 use crate::closing::place_at;
+use crate::dividing::{inverse_of, units_of};
 use crate::regrets::Regrets;
 use crate::worths::{Worth, worth_at};
 use def_round::UNITS;
-use def_sums::PAST_DEALT;
 use def_tree::Player;
 use xg_plan::Play;
 use xg_seq::{SeqForm, SetPlace};
@@ -100,6 +100,7 @@ fn part_of<R: Worth>(regrets: &[R], sequence: u32) -> u128
 // Plays a set where some regret is positive.
 fn play_by_parts<R: Worth>(place: SetPlace, regrets: &[R], sum: u128, play: &mut Play)
     requires from_one { 1 ≤ place.first }
+    requires some_actions { 1 ≤ place.actions }
     requires inside { place.first + place.actions ≤ length regrets.now }
     requires as_many { length play.old ≡ length regrets.now }
     requires limit { length regrets.now ≤ most_sequences }
@@ -108,45 +109,18 @@ fn play_by_parts<R: Worth>(place: SetPlace, regrets: &[R], sum: u128, play: &mut
     requires some { 1 ≤ sum }
     ensures { PlaysSet (placed_of_row place) (set_play (map R.amount regrets.now) (placed_of_row place)) play.old play.new }
 {
+    let inverse = inverse_of(sum);
+    // What is left is the last action's.
+    let last = place.actions - 1;
     let mut sum_so_far = 0u128;
     let mut given = 0u32;
-    for i in 0..place.actions {
+    for i in 0..last {
         sum_so_far += part_of(regrets, place.first + i);
-        let next = units_of(sum_so_far, sum);
+        let next = units_of(sum_so_far, sum, inverse);
         play.set(place.first + i, next - given);
         given = next;
     }
-}
-
-// A part's share of all units, rounded down. Whether there is a part at all can't be foretold, so no branch asks it.
-fn units_of(part: u128, sum: u128) -> u32
-    requires some { 1 ≤ sum }
-    requires small { units * sum < past_product }
-    requires within { part ≤ sum }
-    ensures { result ≡ units * part / sum }
-{
-    if sum < PAST_DEALT {
-        (UNITS as u64 * (part as u64) / (sum as u64)) as u32
-    } else {
-        units_of_large(part, sum)
-    }
-}
-
-// A division of 128 bits takes several times as long as one of 64.
-#[inline(never)]
-fn units_of_large(part: u128, sum: u128) -> u32
-    requires some { 1 ≤ sum }
-    requires small { units * sum < past_product }
-    requires within { part ≤ sum }
-    ensures { result ≡ units * part / sum }
-{
-    if part == 0 {
-        return 0;
-    }
-    if part == sum {
-        return UNITS;
-    }
-    (UNITS as u128 * part / sum) as u32
+    play.set(place.first + last, UNITS - given);
 }
 
 // Plays a set where no regret is positive.
@@ -195,6 +169,6 @@ fn first_of_two(a: u128, b: u128) -> u32
     if sum == 0 {
         UNITS / 2
     } else {
-        units_of(a, sum)
+        units_of(a, sum, inverse_of(sum))
     }
 }
