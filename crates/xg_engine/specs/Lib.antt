@@ -3,4 +3,5 @@ pub mod Engines
 pub mod Evaluations
 pub mod Players
 pub mod Runs
+pub mod Sources
 pub mod State

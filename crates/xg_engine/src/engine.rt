@@ -161,13 +161,7 @@ impl Engine {
         leave(&mut self.last_run, None);
         note_rows(alloc, self.numbers.form(), maker, &mut self.jobs)?;
         let head = head_with(&self.numbers, settings);
-        let source = RowSource {
-            rt,
-            alloc,
-            form: self.numbers.form(),
-            jobs: &self.jobs,
-            maker,
-        };
+        let source = RowSource::new(rt, alloc, self.numbers.form(), &self.jobs, maker);
         let finished = play(&source, variant, settings, head)?;
         leave(&mut self.last_run, Some(finished));
         Ok(())

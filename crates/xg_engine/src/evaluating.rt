@@ -1,12 +1,11 @@
 //! The evaluation of the sums of plans after a round.
 ghost use Rattle.std.specs.Prelude.{◌≡◌, ◌<◌, IfOk, IsTrue, OnOk, length};
-ghost use Rattle.std.specs.Thread.{IsSync};
 ghost use Rattle.def_reply.specs.Offers.{new_board, offered};
 ghost use Rattle.xg_bracket.specs.Board.{last_round};
 ghost use Rattle.xg_jobs.specs.Rows.{ArePlainSums, HaveSmallRows};
-ghost use Rattle.xg_jobs.specs.Table.{Serves};
 ghost use Rattle.xg_engine.specs.Evaluations.{AreSumsAfter, CanEvaluate, HasRoomForRows, best_offer};
-ghost use Rattle.xg_engine.specs.Players.{IsSmallPlan, IsSoundForm};
+ghost use Rattle.xg_engine.specs.Players.{IsSmallPlan};
+ghost use Rattle.xg_engine.specs.Sources.{CanMakeRows};
 
 use crate::source::RowSource;
 use def_plus::Variant;
@@ -53,9 +52,7 @@ impl RowRoom {
         one: &Plan,
         two: &Plan,
     ) -> Result<(), AllocError>
-        requires sync { IsSync Rt.row }
-        requires can { M.can_make source.now.maker.now }
-        requires table { Serves (M.by_packets source.now.maker.now) source.now.form.now source.now.jobs.now }
+        requires source { CanMakeRows Rt.row M.RowMaker source.now }
         requires plan_one { IsSmallPlan source.now.form.now.sets_one one.now }
         requires plan_two { IsSmallPlan source.now.form.now.sets_two two.now }
         requires room { HasRoomForRows source.now.form.now self.old }
@@ -101,10 +98,7 @@ impl Evaluator {
         one: &Plan,
         two: &Plan,
     ) -> Result<(), AllocError>
-        requires sync { IsSync Rt.row }
-        requires can { M.can_make source.now.maker.now }
-        requires table { Serves (M.by_packets source.now.maker.now) source.now.form.now source.now.jobs.now }
-        requires form { IsSoundForm source.now.form.now }
+        requires source { CanMakeRows Rt.row M.RowMaker source.now }
         requires plans { AreSumsAfter self.old.board.variant source.now.form.now round one.now two.now }
         requires later { last_round self.old.board.board.trace < round }
         requires replies { CanEvaluate self.old.board.variant source.now.form.now self.old.board.capacity self.old }

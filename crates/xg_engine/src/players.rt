@@ -1,7 +1,6 @@
 //! Both players from round to round.
 ghost use Rattle.std.specs.Prelude.{◌≡◌, ◌+◌, ◌*◌, ◌<◌, ◌≤◌, ℕ, List, IfOk, IsTrue, OnOk};
 ghost use Rattle.std.specs.Prelude.{length, pos, replicate, slice_index, unsigned_abs};
-ghost use Rattle.std.specs.Thread.{IsSync};
 ghost use Rattle.def_sums.specs.Limits.{most_root, most_rounds, most_scale, most_round_row};
 ghost use Rattle.def_sums.specs.Sum.{nat_sum_over};
 ghost use Rattle.def_plan.specs.Form.{player_sets, sequence_count};
@@ -12,10 +11,10 @@ ghost use Rattle.def_round.specs.Round.{own_sum, regrets_after};
 ghost use Rattle.def_plus.specs.declared.Variant.{Variant};
 ghost use Rattle.def_plus.specs.Variants.{most_rounds_of, most_scale_of};
 ghost use Rattle.xg_jobs.specs.Rows.{ArePlainSums, HaveSmallRows};
-ghost use Rattle.xg_jobs.specs.Table.{Serves};
 ghost use Rattle.xg_plan.specs.Plan.{AreOfOneForm};
-ghost use Rattle.xg_engine.specs.Players.{CanGrow, HasRoomForSequences, IsSoundForm, StandAfter, StandsWith};
+ghost use Rattle.xg_engine.specs.Players.{CanGrow, HasRoomForSequences, StandAfter, StandsWith};
 ghost use Rattle.xg_engine.specs.Players.{regrets_kept, sum_with, times_of};
+ghost use Rattle.xg_engine.specs.Sources.{CanMakeRows};
 
 use crate::source::RowSource;
 use def_plus::Variant;
@@ -149,10 +148,7 @@ impl Players {
         scale: u32,
         so_far: u32,
     ) -> Result<(), AllocError>
-        requires sync { IsSync Rt.row }
-        requires can { M.can_make source.now.maker.now }
-        requires table { Serves (M.by_packets source.now.maker.now) source.now.form.now source.now.jobs.now }
-        requires form { IsSoundForm source.now.form.now }
+        requires source { CanMakeRows Rt.row M.RowMaker source.now }
         requires some_scale { 1 ≤ scale }
         requires small_scale { scale ≤ most_scale_of variant }
         requires few_rounds { so_far < most_rounds_of variant }

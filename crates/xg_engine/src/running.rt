@@ -1,14 +1,12 @@
 //! A run over all rounds.
 ghost use Rattle.std.specs.Prelude.{◌≡◌, ◌+◌, ◌<◌, IfOk, OnOk, length};
-ghost use Rattle.std.specs.Thread.{IsSync};
 ghost use Rattle.def_reply.specs.Bracket.{evaluated_rounds};
 ghost use Rattle.def_run.specs.Run.{outcome_with};
 ghost use Rattle.def_plus.specs.Variants.{rounds_of};
 ghost use Rattle.def_plus_run.specs.VariantRun.{outcome_of};
 ghost use Rattle.xg_cert.specs.Outcome.{head_of};
-ghost use Rattle.xg_jobs.specs.Table.{Serves};
-ghost use Rattle.xg_engine.specs.Players.{IsSoundForm};
 ghost use Rattle.xg_engine.specs.Runs.{IsAfter};
+ghost use Rattle.xg_engine.specs.Sources.{CanMakeRows};
 ghost use Rattle.xg_engine.specs.State.{AreWithinLimits, AreWithinLimitsOf, Asks};
 
 use crate::evaluating::Evaluator;
@@ -64,10 +62,7 @@ impl Run {
         settings: Settings,
         so_far: u32,
     ) -> Result<(), AllocError>
-        requires sync { IsSync Rt.row }
-        requires can { M.can_make source.now.maker.now }
-        requires table { Serves (M.by_packets source.now.maker.now) source.now.form.now source.now.jobs.now }
-        requires form { IsSoundForm source.now.form.now }
+        requires source { CanMakeRows Rt.row M.RowMaker source.now }
         requires limits { AreWithinLimitsOf variant settings }
         requires next { so_far < settings.rounds }
         requires run { IsAfter variant source.now.form.now settings so_far self.old }
@@ -91,10 +86,7 @@ impl Run {
         variant: Variant,
         settings: Settings,
     ) -> Result<(), AllocError>
-        requires sync { IsSync Rt.row }
-        requires can { M.can_make source.now.maker.now }
-        requires table { Serves (M.by_packets source.now.maker.now) source.now.form.now source.now.jobs.now }
-        requires form { IsSoundForm source.now.form.now }
+        requires source { CanMakeRows Rt.row M.RowMaker source.now }
         requires limits { AreWithinLimitsOf variant settings }
         requires run { IsAfter variant source.now.form.now settings 0 self.old }
         ensures { OnOk result (IsAfter variant source.now.form.now settings settings.rounds self.new) }
@@ -113,19 +105,15 @@ pub(crate) fn play<Rt: Threads + Wait + Sync, M: RowMaker>(
     settings: Settings,
     head: Head,
 ) -> Result<FinishedRun, AllocError>
-    requires sync { IsSync Rt.row }
-    requires can { M.can_make source.now.maker.now }
-    requires table { Serves (M.by_packets source.now.maker.now) source.now.form.now source.now.jobs.now }
+    requires source { CanMakeRows Rt.row M.RowMaker source.now }
     requires limits { AreWithinLimitsOf variant settings }
     requires head { Asks settings (head_of head) }
     ensures outcome { IfOk result (λ run. run.outcome ≡ outcome_of variant source.now.form.now (head_of head)) }
-    ensures sound { OnOk result (IsSoundForm source.now.form.now) }
     ensures sum_one { IfOk result (λ run.
         run.sum_one ≡ (rounds_of variant source.now.form.now settings.scale settings.rounds).sum_one) }
     ensures sum_two { IfOk result (λ run.
         run.sum_two ≡ (rounds_of variant source.now.form.now settings.scale settings.rounds).sum_two) }
 {
-    form_is_sound(source.form);
     let mut run = Run::new(source.alloc, source.form, variant, settings)?;
     match run.play_rounds(source, variant, settings) {
         Ok(()) => Ok(finish(head, run)),
@@ -134,13 +122,6 @@ pub(crate) fn play<Rt: Threads + Wait + Sync, M: RowMaker>(
             Err(error)
         }
     }
-}
-
-// Nothing but what is true of every form.
-fn form_is_sound(form: &SeqForm)
-    ensures { IsSoundForm form.now }
-{
-    form.facts();
 }
 
 // How many rounds are evaluated.

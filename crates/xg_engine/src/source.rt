@@ -3,8 +3,9 @@ ghost use Rattle.std.specs.Prelude.{◌≡◌, ◌↔◌, IfOk, IsTrue, length};
 ghost use Rattle.std.specs.Thread.{IsSync};
 ghost use Rattle.def_plan.specs.Form.{sequence_count};
 ghost use Rattle.xg_jobs.specs.Rows.{AreNumbersOf, ArePlainSums, HaveSmallRows};
-ghost use Rattle.xg_jobs.specs.Table.{HasLeavesOf, Serves};
+ghost use Rattle.xg_jobs.specs.Table.{Serves};
 ghost use Rattle.xg_engine.specs.Players.{IsSmallPlan};
+ghost use Rattle.xg_engine.specs.Sources.{CanMakeRows};
 
 use std::alloc::{AllocError, Global};
 use std::sync::Wait;
@@ -24,11 +25,33 @@ pub(crate) struct RowSource<'a, Rt, M> {
 }
 
 impl<'a, Rt: Threads + Wait + Sync, M: RowMaker> RowSource<'a, Rt, M> {
+    /// The source of a form's rows, with the table of its jobs.
+    pub(crate) fn new(
+        rt: &'a Rt,
+        alloc: Global,
+        form: &'a SeqForm,
+        jobs: &'a JobTable,
+        maker: &'a M,
+    ) -> RowSource<'a, Rt, M>
+        requires sync { IsSync Rt.row }
+        requires can { M.can_make maker.now }
+        requires table { Serves (M.by_packets maker.now) form.now jobs.now }
+        ensures source { CanMakeRows Rt.row M.RowMaker result }
+        ensures form { result.form.now ≡ form.now }
+    {
+        form.facts();
+        RowSource {
+            rt,
+            alloc,
+            form,
+            jobs,
+            maker,
+        }
+    }
+
     /// The leaf sums of each player's sequences against the other player's plan.
     pub(crate) fn rows(&self, one: &Plan, two: &Plan) -> Result<Rows, AllocError>
-        requires sync { IsSync Rt.row }
-        requires can { M.can_make self.now.maker.now }
-        requires table { Serves (M.by_packets self.now.maker.now) self.now.form.now self.now.jobs.now }
+        requires source { CanMakeRows Rt.row M.RowMaker self.now }
         requires plan_one { IsSmallPlan self.now.form.now.sets_one one.now }
         requires plan_two { IsSmallPlan self.now.form.now.sets_two two.now }
         ensures { IfOk result (λ rows. ArePlainSums self.now.form.now one.now two.now rows) }
@@ -39,7 +62,7 @@ impl<'a, Rt: Threads + Wait + Sync, M: RowMaker> RowSource<'a, Rt, M> {
 
     /// The same in 64 bits, if the maker makes them and it is known that they have room. Takes no memory.
     pub(crate) fn small_rows(&self, one: &Plan, two: &Plan, rows: &mut SmallRows) -> bool
-        requires table { HasLeavesOf self.now.form.now self.now.jobs.now }
+        requires source { CanMakeRows Rt.row M.RowMaker self.now }
         requires plan_one { IsSmallPlan self.now.form.now.sets_one one.now }
         requires plan_two { IsSmallPlan self.now.form.now.sets_two two.now }
         requires rows_one { length rows.old.one ≡ sequence_count self.now.form.now.sets_one }

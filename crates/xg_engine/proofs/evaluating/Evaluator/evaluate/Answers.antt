@@ -13,7 +13,7 @@ best_reply-requires-clause-small g c =
     let form = c.args.source.now.form.now in
     let plans = c.requires.plans in
     small_in_evaluation form Two c.args.one.now c.two.result.now (c.two.ensures ∙ c.in_ok-make.ensures.sums.two)
-    form.sets_one (weight_of_rounds c.args.self.now.board.variant c.args.round * plans.scale) c.requires.form.order_one plans.plan_one c.requires.form.small_mass plans.small_root
+    form.sets_one (weight_of_rounds c.args.self.now.board.variant c.args.round * plans.scale) c.requires.source.form.order_one plans.plan_one c.requires.source.form.small_mass plans.small_root
 
 pub best_reply-requires-2-clause-rows : goal.best_reply-requires-2-clause-rows
 best_reply-requires-2-clause-rows g c =
@@ -24,7 +24,7 @@ best_reply-requires-2-clause-small g c =
     let form = c.args.source.now.form.now in
     let plans = c.requires.plans in
     small_in_evaluation form One c.args.two.now c.one.result.now (c.one.ensures ∙ c.in_ok-make.ensures.sums.one)
-    form.sets_two (weight_of_rounds c.args.self.now.board.variant c.args.round * plans.scale) c.requires.form.order_two plans.plan_two c.requires.form.small_mass plans.small_root
+    form.sets_two (weight_of_rounds c.args.self.now.board.variant c.args.round * plans.scale) c.requires.source.form.order_two plans.plan_two c.requires.source.form.small_mass plans.small_root
 
 pub offer-requires-clause-fair : goal.offer-requires-clause-fair
 offer-requires-clause-fair g c =
@@ -32,9 +32,9 @@ offer-requires-clause-fair g c =
     record {
       form = c.args.source.now.form.now;
       sizes = sym c.requires.replies.sizes;
-      order_one = c.requires.form.order_one;
-      order_two = c.requires.form.order_two;
-      mass = c.requires.form.small_mass;
+      order_one = c.requires.source.form.order_one;
+      order_two = c.requires.source.form.order_two;
+      mass = c.requires.source.form.small_mass;
       fair = record {
         scale = plans.scale;
         later = c.requires.later;

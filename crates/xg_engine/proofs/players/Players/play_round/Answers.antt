@@ -19,7 +19,7 @@ plan_round-requires-clause-sums g c =
     let root = c.args.scale in
     subst (λ n. CanGrow form.sets_one (times_of c.args.variant (n + 1) * root) c.args.self.now.one.sum) (sym c.from-round.ensures)
     (subst (CanGrow form.sets_one (times_of c.args.variant (c.args.so_far + 1) * root)) (sym c.requires.stand.one.sums_are)
-    (can_grow_one c.args.variant form root c.requires.form c.requires.some_scale c.requires.small_scale c.args.so_far c.requires.few_rounds))
+    (can_grow_one c.args.variant form root c.requires.source.form c.requires.some_scale c.requires.small_scale c.args.so_far c.requires.few_rounds))
 
 pub plan_round-requires-2-clause-sums : goal.plan_round-requires-2-clause-sums
 plan_round-requires-2-clause-sums g c =
@@ -27,19 +27,19 @@ plan_round-requires-2-clause-sums g c =
     let root = c.args.scale in
     subst (λ n. CanGrow form.sets_two (times_of c.args.variant (n + 1) * root) c.args.self.now.two.sum) (sym c.from-round.ensures)
     (subst (CanGrow form.sets_two (times_of c.args.variant (c.args.so_far + 1) * root)) (sym c.requires.stand.two.sums_are)
-    (can_grow_two c.args.variant form root c.requires.form c.requires.some_scale c.requires.small_scale c.args.so_far c.requires.few_rounds))
+    (can_grow_two c.args.variant form root c.requires.source.form c.requires.some_scale c.requires.small_scale c.args.so_far c.requires.few_rounds))
 
 pub learn_small-requires-clause-small : goal.learn_small-requires-clause-small
 learn_small-requires-clause-small g c =
     let form = c.args.source.now.form.now in
     small_in_round form One c.plan_round-2.new.self.plan c.one.result.now (c.one.ensures ∙ (c.small_rows.ensures.sums c.if-small_rows.true).one)
-    form.sets_two c.args.scale c.requires.form.order_two c.plan_round-2.ensures.is_plan c.requires.form.small_mass (scale_within c.args.variant c.args.scale c.requires.small_scale)
+    form.sets_two c.args.scale c.requires.source.form.order_two c.plan_round-2.ensures.is_plan c.requires.source.form.small_mass (scale_within c.args.variant c.args.scale c.requires.small_scale)
 
 pub learn_small-requires-then-small_rows-clause-small : goal.learn_small-requires-then-small_rows-clause-small
 learn_small-requires-then-small_rows-clause-small g c =
     let form = c.args.source.now.form.now in
     small_in_round form Two c.plan_round.new.self.plan c.two.result.now (c.two.ensures ∙ (c.small_rows.ensures.sums c.if-small_rows.true).two)
-    form.sets_one c.args.scale c.requires.form.order_one c.plan_round.ensures.is_plan c.requires.form.small_mass (scale_within c.args.variant c.args.scale c.requires.small_scale)
+    form.sets_one c.args.scale c.requires.source.form.order_one c.plan_round.ensures.is_plan c.requires.source.form.small_mass (scale_within c.args.variant c.args.scale c.requires.small_scale)
 
 pub learn-requires-clause-rows : goal.learn-requires-clause-rows
 learn-requires-clause-rows g c =
@@ -49,7 +49,7 @@ pub learn-requires-clause-small : goal.learn-requires-clause-small
 learn-requires-clause-small g c =
     let form = c.args.source.now.form.now in
     small_in_round form One c.plan_round-2.new.self.plan c.one-2.result.now (c.one-2.ensures ∙ c.in_ok-rows.ensures.one)
-    form.sets_two c.args.scale c.requires.form.order_two c.plan_round-2.ensures.is_plan c.requires.form.small_mass (scale_within c.args.variant c.args.scale c.requires.small_scale)
+    form.sets_two c.args.scale c.requires.source.form.order_two c.plan_round-2.ensures.is_plan c.requires.source.form.small_mass (scale_within c.args.variant c.args.scale c.requires.small_scale)
 
 pub learn-requires-2-clause-rows : goal.learn-requires-2-clause-rows
 learn-requires-2-clause-rows g c =
@@ -59,7 +59,7 @@ pub learn-requires-2-clause-small : goal.learn-requires-2-clause-small
 learn-requires-2-clause-small g c =
     let form = c.args.source.now.form.now in
     small_in_round form Two c.plan_round.new.self.plan c.two-2.result.now (c.two-2.ensures ∙ c.in_ok-rows.ensures.two)
-    form.sets_one c.args.scale c.requires.form.order_one c.plan_round.ensures.is_plan c.requires.form.small_mass (scale_within c.args.variant c.args.scale c.requires.small_scale)
+    form.sets_one c.args.scale c.requires.source.form.order_one c.plan_round.ensures.is_plan c.requires.source.form.small_mass (scale_within c.args.variant c.args.scale c.requires.small_scale)
 
 pub returns-then-small_rows-clause-stand : goal.returns-then-small_rows-clause-stand
 returns-then-small_rows-clause-stand g c =

@@ -12,7 +12,7 @@ evaluate-requires-clause-plans g c κs within =
     let n = c.args.so_far + 1 in
     let players = c.play_round.new.self in
     subst (λ v. AreSumsAfter v form n players.one.sum players.two.sum) (sym c.requires.run.room.variant_is)
-    (sums_of_players c.args.variant form c.args.settings.scale c.requires.form limits.some_scale limits.small_scale
+    (sums_of_players c.args.variant form c.args.settings.scale c.requires.source.form limits.some_scale limits.small_scale
     n players c.in_ok-play_round.ensures.stand (omega arith) (omega (arith, c.requires.next, limits.few_rounds)))
 
 pub evaluate-requires-clause-room : goal.evaluate-requires-clause-room
