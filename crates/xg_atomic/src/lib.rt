@@ -1,5 +1,5 @@
-//! A table of atomic words: a claim word, and two words for each row. Seats claim numbers and add what these bring, each
-//! by one step that waits for nobody.
+//! A table of atomic words: a claim word, and two words for each row. Seats claim numbers and add what these bring,
+//! each by one step that waits for nobody.
 #![tactic(auto)]
 
 mod rule;

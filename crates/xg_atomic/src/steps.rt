@@ -5,7 +5,8 @@ ghost use Rattle.std.specs.Mem.Slots.{slots_items, slots_len, IsFull};
 ghost use Rattle.def_sums.specs.Limits.{most_workers};
 ghost use Rattle.def_history.specs.History.{sum_over_jobs};
 ghost use Rattle.def_words.specs.Views.{first_view, made_of, new_worker, numbers_of, reached_of, unjoined_of};
-ghost use Rattle.def_words.specs.Amounts.{AreSmall, LastIsComplete, IsNext, past_sizes, side_of, word_at, positive, negative};
+ghost use Rattle.def_words.specs.Amounts.{AreSmall, LastIsComplete, IsNext};
+ghost use Rattle.def_words.specs.Amounts.{past_sizes, side_of, word_at, positive, negative};
 ghost use Rattle.xg_atomic.specs.Seats.{IsOwner, IsWorker, claimed, joined_views, with_row, with_worker};
 
 use crate::rule::{Adds, Claims, Joins, Splits, WordRule};

@@ -6,7 +6,8 @@ use lib.ListN.{get_elem?}
 use Rattle.atomic_table.specs.Table.{State, Me, keeps, Allows, Splits, Joins}
 use Rattle.atomic_table.proofs.Lists.{at_set, at_snoc, set_again}
 use Rattle.xg_locked.specs.declared.view.View.{View}
-use Rattle.xg_locked.specs.Rights.{once, job_count_of, stripes_of, rights_for, total_of, whole_view, both, seen, spent, HoldsByNumber, Kept, IsKept, IsLoaded, IsCutInTwo}
+use Rattle.xg_locked.specs.Rights.{once, job_count_of, stripes_of, rights_for, total_of, whole_view, both, seen, spent, HoldsByNumber, Kept, IsKept, IsLoaded}
+use Rattle.xg_locked.specs.Rights.{IsCutInTwo}
 use Rattle.def_history.specs.History.{job_numbers}
 use Rattle.def_history.specs.Core.{times_right}
 use Rattle.xg_locked.proofs.Sums.{times_append, total_set, total_snoc, total_has, total_only, all_once}
@@ -38,10 +39,12 @@ cuts_kept n views id v kept given cut k at = record {
       let number = (k.fits id v at).number_is cut.live in
       ⊎_elim
       (λ was. ⊎_elim
-      (λ (x : (seat ≡ id) × (kept ≡ u)). subst (HoldsByNumber n) x.1 (record { idle = λ none. absurd (omega (arith, cut.some_kept)); number_is = λ _. (cut.numbers.0 ∙ number.0, cut.numbers.1 ∙ number.0) }))
+      (λ (x : (seat ≡ id) × (kept ≡ u)). subst (HoldsByNumber n) x.1
+      (record { idle = λ none. absurd (omega (arith, cut.some_kept)); number_is = λ _. (cut.numbers.0 ∙ number.0, cut.numbers.1 ∙ number.0) }))
       (λ (x : (seat ≢ id) × (get_elem? views seat ≡ some u)). k.fits seat u x.1)
       (at_set views id seat kept u was))
-      (λ (same : given ≡ u). subst (HoldsByNumber n) same (record { idle = λ none. absurd (omega (arith, cut.some_given)); number_is = λ _. (cut.numbers.2 ∙ number.0, cut.numbers.3 ∙ number.0) }))
+      (λ (same : given ≡ u). subst (HoldsByNumber n) same
+      (record { idle = λ none. absurd (omega (arith, cut.some_given)); number_is = λ _. (cut.numbers.2 ∙ number.0, cut.numbers.3 ∙ number.0) }))
       (at_snoc (set views id kept) given u seat e);
 }
 
@@ -62,7 +65,9 @@ pub pours_kept : (n : ℕ) (views : List View) (id : ℕ) (v : View) (other : �
     → Kept n views → get_elem? views id ≡ some v → ¬ (other ≡ id) → get_elem? (set views id (both v w)) other ≡ some w
     → Kept n (set (set views id (both v w)) other spent)
 pours_kept n views id v other w live also k at apart there =
-    let was : get_elem? views other ≡ some w = ⊎_elim (λ (x : (other ≡ id) × (both v w ≡ w)). absurd (apart x.0)) (λ (x : (other ≢ id) × (get_elem? views other ≡ some w)). x.1) (at_set views id other (both v w) w there) in
+    let was : get_elem? views other ≡ some w =
+    ⊎_elim (λ (x : (other ≡ id) × (both v w ≡ w)). absurd (apart x.0)) (λ (x : (other ≢ id) × (get_elem? views other ≡ some w)). x.1)
+    (at_set views id other (both v w) w there) in
     record {
       rights = λ j s. poured n views id v other w (λ u. times_right j s u.rights) (times_append j s v.rights w.rights) refl at there ∙ k.rights j s;
       tickets = poured n views id v other w (λ u. u.tickets) refl refl at there ∙ k.tickets;
@@ -71,7 +76,8 @@ pours_kept n views id v other w live also k at apart there =
           ⊎_elim
           (λ (x : (seat ≡ other) × (spent ≡ u)). subst (HoldsByNumber n) x.1 (record { idle = λ _. (refl, refl); number_is = λ some. absurd (omega arith) }))
           (λ (x : (seat ≢ other) × (get_elem? (set views id (both v w)) seat ≡ some u)). ⊎_elim
-          (λ (y : (seat ≡ id) × (both v w ≡ u)). subst (HoldsByNumber n) y.1 (record { idle = λ none. absurd (omega arith); number_is = λ _. (((k.fits id v at).number_is live).0, ((k.fits other w was).number_is also).0) }))
+          (λ (y : (seat ≡ id) × (both v w ≡ u)). subst (HoldsByNumber n) y.1
+          (record { idle = λ none. absurd (omega arith); number_is = λ _. (((k.fits id v at).number_is live).0, ((k.fits other w was).number_is also).0) }))
           (λ (y : (seat ≢ id) × (get_elem? views seat ≡ some u)). k.fits seat u y.1)
           (at_set views id seat (both v w) u x.1))
           (at_set (set views id (both v w)) other seat spent u e);
@@ -137,5 +143,14 @@ pub met_is : (n : ℕ) (v w : View) → IsLoaded n (both v w)
     × (both v w ≡ seen (v.rights ++ w.rights) (v.tickets + w.tickets) (v.parts + w.parts) v.number)
     × IsLoaded v.number (both v w)
 met_is n v w loaded =
-    let numbers : v.number ≡ w.number = loaded.number_is.0 ∙ sym loaded.number_is.1 in
-    (numbers, (λ i. record { rights = v.rights ++ w.rights; tickets = v.tickets + w.tickets; parts = v.parts + w.parts; number = v.number; met = sym numbers i }), subst (λ m. IsLoaded m (both v w)) (sym loaded.number_is.0) loaded)
+    let numbers : v.number ≡ w.number = loaded.number_is.0 ∙ sym loaded.number_is.1 in (
+      numbers,
+      (λ i. record {
+        rights = v.rights ++ w.rights;
+        tickets = v.tickets + w.tickets;
+        parts = v.parts + w.parts;
+        number = v.number;
+        met = sym numbers i;
+      }),
+      subst (λ m. IsLoaded m (both v w)) (sym loaded.number_is.0) loaded,
+    )

@@ -1,5 +1,6 @@
 -- How rights are moved under the locks.
-use Rattle.std.proofs.Common.{◌≡◌, ℕ, ◌+◌, ◌≤◌, ◌&&◌, Bool, true, false, cond, eqb, ltb, if◌then◌else◌, nat_lt, List, [], ◌∷◌, ◌++◌, length, drop, refl, sym, ap, ◌∙◌, arith}
+use Rattle.std.proofs.Common.{◌≡◌, ℕ, ◌+◌, ◌≤◌, ◌&&◌, Bool, true, false, cond, eqb, ltb, if◌then◌else◌, nat_lt, List, [], ◌∷◌, ◌++◌, length, drop, refl, sym}
+use Rattle.std.proofs.Common.{ap, ◌∙◌, arith}
 use Rattle.std.specs.Prelude.{◌<◌, All, Contains}
 use Rattle.std.proofs.lemmas.Bool.Decides.{nat_tests}
 use Rattle.std.proofs.lemmas.List.Sorted.{IsPermutation-refl, IsPermutation-to_front}
@@ -16,7 +17,8 @@ use Rattle.xg_locked.specs.Locked.{without}
 
 -- all rights go to the bag
 pub all_is_cut : (number : ℕ)
-    → IsCutInTwo (whole_view number) (seen [] 64 (stripes_of number + 65) number) (seen (rights_for (job_numbers (job_count_of number)) (stripes_of number)) 0 1 number)
+    → IsCutInTwo (whole_view number) (seen [] 64 (stripes_of number + 65) number)
+    (seen (rights_for (job_numbers (job_count_of number)) (stripes_of number)) 0 1 number)
 all_is_cut number = record {
   live = omega arith;
   rights = λ j s. (let a = times_append j s [] (rights_for (job_numbers (job_count_of number)) (stripes_of number)) in sym a);
@@ -29,7 +31,8 @@ all_is_cut number = record {
 
 -- a job's rights leave the bag
 pub job_is_cut : (rest : List ℕ) (job number : ℕ)
-    → IsCutInTwo (seen (rights_for (rest ++ job ∷ []) (stripes_of number) ++ []) 1 2 number) (seen (rights_for rest (stripes_of number)) 0 1 number) (seen (rights_of job (stripes_of number)) 1 1 number)
+    → IsCutInTwo (seen (rights_for (rest ++ job ∷ []) (stripes_of number) ++ []) 1 2 number) (seen (rights_for rest (stripes_of number)) 0 1 number)
+    (seen (rights_of job (stripes_of number)) 1 1 number)
 job_is_cut rest job number = record {
   live = omega arith;
   rights = λ j s.
@@ -79,10 +82,13 @@ times_without j s job stripe (r ∷ rs) has = taken (times_without j s job strip
 -- a right goes to the stripe
 pub right_is_cut : (stripe job tickets number : ℕ) (order : List ℕ) (rights : List Right)
     → 1 ≤ times_right job stripe rights
-    → IsCutInTwo (seen (rights_at stripe order ++ rights) tickets 2 number) (seen (rights_at stripe (order ++ job ∷ [])) 0 1 number) (seen (without job stripe rights) tickets 1 number)
+    → IsCutInTwo (seen (rights_at stripe order ++ rights) tickets 2 number) (seen (rights_at stripe (order ++ job ∷ [])) 0 1 number)
+    (seen (without job stripe rights) tickets 1 number)
 right_is_cut stripe job tickets number order rights has = record {
   live = omega arith;
-  rights = λ j s. counted (eqb stripe s) (eqb job j) _ _ _ _ _ _ _ (times_append j s (rights_at stripe order) rights) (times_at j s stripe order) (times_at j s stripe (order ++ job ∷ [])) (times-push j job order) (times_without j s job stripe rights has);
+  rights =
+      λ j s. counted (eqb stripe s) (eqb job j) _ _ _ _ _ _ _ (times_append j s (rights_at stripe order) rights) (times_at j s stripe order)
+      (times_at j s stripe (order ++ job ∷ [])) (times-push j job order) (times_without j s job stripe rights has);
   tickets = omega arith;
   parts = refl;
   some_kept = omega arith;
@@ -149,13 +155,16 @@ opened stripe order v p w v_is p_is numbers w_is = record { plain = plain; their
     less = omega arith
 
     plain : w ≡ seen (rights_at stripe order ++ p.rights) p.tickets 2 p.number
-    plain = w_is ∙ (λ i. seen ((v_is i).rights ++ p.rights) ((v_is i).tickets + p.tickets) ((v_is i).parts + (p_is i).parts) (numbers i)) ∙ (λ i. seen (rights_at stripe order ++ p.rights) (less i) 2 p.number)
+    plain =
+        w_is ∙ (λ i. seen ((v_is i).rights ++ p.rights) ((v_is i).tickets + p.tickets) ((v_is i).parts + (p_is i).parts) (numbers i))
+        ∙ (λ i. seen (rights_at stripe order ++ p.rights) (less i) 2 p.number)
 
     theirs : drop (length order) w.rights ≡ p.rights
     theirs = ap (λ (u : View). drop (length order) u.rights) plain ∙ rights_at_drop stripe order p.rights
 
     view : w ≡ seen (rights_at stripe order ++ drop (length order) w.rights) w.tickets 2 w.number
-    view = plain ∙ (λ i. seen (rights_at stripe order ++ sym theirs i) (sym (ap (λ (u : View). u.tickets) plain) i) 2 (sym (ap (λ (u : View). u.number) plain) i))
+    view =
+        plain ∙ (λ i. seen (rights_at stripe order ++ sym theirs i) (sym (ap (λ (u : View). u.tickets) plain) i) 2 (sym (ap (λ (u : View). u.number) plain) i))
 
 -- what is done under the locks, as steps of the core
 pub takes_job : (stripes job : ℕ) (bag after : List ℕ) (held now : List Right) → bag ≡ after ++ job ∷ [] → held ≡ []

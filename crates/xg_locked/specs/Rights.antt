@@ -1,5 +1,6 @@
 -- Rights, tickets and parts: what seats hold of them, and their three sums over all views.
-use Rattle.std.specs.Prelude.{◌≡◌, ℕ, ◌+◌, ◌*◌, ◌/◌, ◌%◌, ◌<◌, ◌≤◌, ◌&&◌, if◌then◌else◌, nat_lt, List, [], ◌∷◌, ◌++◌, map, slice_index}
+use Rattle.std.specs.Prelude.{◌≡◌, ℕ, ◌+◌, ◌*◌, ◌/◌, ◌%◌, ◌<◌, ◌≤◌, ◌&&◌, if◌then◌else◌, nat_lt, List, [], ◌∷◌, ◌++◌}
+use Rattle.std.specs.Prelude.{map, slice_index}
 use Rattle.std.specs.List.{flat_map}
 use mathlib.Core.Option.{some}
 use lib.ListN.{get_elem?}
@@ -49,7 +50,9 @@ seen rights tickets parts number =
 
 -- the first seat's view
 abbrev pub whole_view : ℕ → View
-whole_view number = seen (rights_for (job_numbers (job_count_of number)) (stripes_of number)) most_workers (stripes_of number + free_parts) number
+whole_view number =
+    seen (rights_for (job_numbers (job_count_of number)) (stripes_of number)) most_workers
+    (stripes_of number + free_parts) number
 
 -- two views put together
 abbrev pub both : View → View → View

@@ -39,8 +39,9 @@ impl<N: RowName> Bag<N> {
         ensures bag { IfOk result (λ bag. bag.jobs.items ≡ job_numbers jobs) }
         ensures number { IfOk result (λ bag. number_met bag.seat.me ≡ number_met seat.old.me) }
         ensures table { IfOk result (λ bag. seat.new.table_id ≡ N.table) }
-        ensures seat { IfOk result
-            (λ bag. seat.new.me ≡ (seen [] most_workers (stripes_of (number_met seat.old.me) + (most_workers + 1)) (number_met seat.old.me), [])) }
+        ensures seat { let number = number_met seat.old.me in
+            IfOk result
+            (λ bag. seat.new.me ≡ (seen [] most_workers (stripes_of number + (most_workers + 1)) number, [])) }
     {
         let jobs = numbers_of(alloc, jobs)?;
         let all = give_all::<Brand>(table, seat);
@@ -56,8 +57,8 @@ impl<N: RowName> Bag<N> {
         requires table { (table.now.table_id ≡ N.table) × (0 < N.table.words) }
         requires seat { (seat.table_id ≡ N.table) × (seat.me ≡ (seen [] 1 1 (number_met seat.me), [])) }
         ensures table { result.1.table_id ≡ N.table }
-        ensures some { IfSome result.0
-            (λ job. result.1.me ≡ (seen (rights_of job (stripes_of (number_met seat.me))) 1 1 (number_met seat.me), [])) }
+        ensures some { let number = number_met seat.me in
+            IfSome result.0 (λ job. result.1.me ≡ (seen (rights_of job (stripes_of number)) 1 1 number, [])) }
         ensures job { IfSome result.0 (λ job. job < N.jobs) }
         ensures step { IfSome result.0
             (λ job. TakesJob (stripes_of (number_met seat.me)) self.old.jobs.items seat.me.0.rights job
@@ -106,10 +107,10 @@ fn numbers_of(alloc: Global, jobs: u32) -> Result<Vec<u32>, AllocError>
 fn give_all<C: Cut>(table: &SharedRights, seat: &mut RightsSeat) -> RightsSeat
     requires table { (seat.old.table_id ≡ table.now.table_id) × (0 < table.now.table_id.words) }
     requires whole { seat.old.me.0 ≡ whole_view (number_met seat.old.me) }
-    requires kept { C.kept ≡ seen [] most_workers (stripes_of (number_met seat.old.me) + (most_workers + 1)) (number_met seat.old.me) }
-    requires given { C.given
-        ≡ seen (rights_for (job_numbers (job_count_of (number_met seat.old.me))) (stripes_of (number_met seat.old.me))) 0 1
-        (number_met seat.old.me) }
+    requires kept { let number = number_met seat.old.me in
+        C.kept ≡ seen [] most_workers (stripes_of number + (most_workers + 1)) number }
+    requires given { let number = number_met seat.old.me in
+        C.given ≡ seen (rights_for (job_numbers (job_count_of number)) (stripes_of number)) 0 1 number }
     ensures kept { (seat.new.table_id ≡ seat.old.table_id) × (seat.new.me ≡ (C.kept, seat.old.me.1)) }
     ensures given { (result.table_id ≡ seat.old.table_id) × (result.me ≡ (C.given, [])) }
 {

@@ -40,8 +40,8 @@ impl<N: RowName> SeatedStripe<N> {
             × (seat.old.me ≡ (seen [] seat.old.me.0.tickets seat.old.me.0.parts (number_met seat.old.me), [])) }
         ensures index { IfOk result (λ s. s.stripe ≡ record { index = index; stripes = stripes; order = [] }) }
         ensures table { IfOk result (λ s. seat.new.table_id ≡ N.table) }
-        ensures seat { IfOk result
-            (λ s. seat.new.me ≡ (seen [] seat.old.me.0.tickets (seat.old.me.0.parts - 1) (number_met seat.old.me), [])) }
+        ensures seat { let kept = seen [] seat.old.me.0.tickets (seat.old.me.0.parts - 1) (number_met seat.old.me) in
+            IfOk result (λ s. seat.new.me ≡ (kept, [])) }
     {
         let stripe = Stripe::new(alloc, index, stripes, rows, jobs)?;
         let part = give_part::<Brand>(table, seat);

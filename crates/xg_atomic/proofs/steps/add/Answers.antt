@@ -28,13 +28,20 @@ fetch_add-requires g c =
     let is : to_z w128 (of_z w128 c.args.amount) ≡ a = to_z-of_z w128 c.args.amount c.ranges.amount ∙ n.amount_is in
     let word : c.word_of.result ≡ word_at (side_of a) c.args.row = c.word_of.ensures ∙ ap (λ z. word_at (side_of z) c.args.row) is in
     let size : c.size_of.result ≡ unsigned_abs a = c.size_of.ensures ∙ ap unsigned_abs is in
-    let P : ℕ → ℕ → Me (Unit {0}) View → Type 0 = λ w k m. Allows R slots c.args.seat.now.id m w (λ x. (x + k) % 18446744073709551616) (λ found now. now ≡ (with_row (row_of w) m.0, m.1)) in
+    let P : ℕ → ℕ → Me (Unit {0}) View → Type 0 =
+    λ w k m. Allows R slots c.args.seat.now.id m w (λ x. (x + k) % 18446744073709551616) (λ found now. now ≡ (with_row (row_of w) m.0, m.1)) in
     let view : me ≡ (Worker (n.job ∷ n.earlier) (reached_of me.0), []) = c.requires.worker ∙ ap (λ ns. (Worker ns (reached_of me.0), [])) n.last in
-    let made = adds g.N.RowName.jobs g.N.RowName.rows g.N.RowName.amount slots c.args.seat.now.id n.job n.earlier (reached_of me.0) c.args.row c.requires.small c.requires.row n.is_job n.after n.between in
-    let told = subst (λ r. Allows R slots c.args.seat.now.id (Worker (n.job ∷ n.earlier) (reached_of me.0), []) (word_at (side_of a) c.args.row) (λ x. (x + unsigned_abs a) % 18446744073709551616) (λ found now. now ≡ (Worker (n.job ∷ n.earlier) (r + 1), []))) (sym (row_of_word (side_of a) c.args.row)) made in (
+    let made =
+    adds g.N.RowName.jobs g.N.RowName.rows g.N.RowName.amount slots c.args.seat.now.id n.job n.earlier (reached_of me.0) c.args.row c.requires.small
+    c.requires.row n.is_job n.after n.between in
+    let told =
+    subst (λ r. Allows R slots c.args.seat.now.id (Worker (n.job ∷ n.earlier) (reached_of me.0), []) (word_at (side_of a) c.args.row)
+    (λ x. (x + unsigned_abs a) % 18446744073709551616) (λ found now. now ≡ (Worker (n.job ∷ n.earlier) (r + 1), [])))
+    (sym (row_of_word (side_of a) c.args.row)) made in (
       c.requires.table.0,
       (let f = word_fits (side_of a) c.args.row g.N.RowName.rows c.requires.row in omega (arith, f, word, c.requires.table.1)),
-      subst (λ w. P w c.size_of.result me) (sym word) (subst (λ k. P (word_at (side_of a) c.args.row) k me) (sym size) (subst (P (word_at (side_of a) c.args.row) (unsigned_abs a)) (sym view) told)),
+      subst (λ w. P w c.size_of.result me) (sym word) (subst (λ k. P (word_at (side_of a) c.args.row) k me) (sym size)
+          (subst (P (word_at (side_of a) c.args.row) (unsigned_abs a)) (sym view) told)),
     )
 
 pub returns-clause-view : goal.returns-clause-view

@@ -7,4 +7,5 @@ pub loop-job-preserved : goal.loop-job-preserved
 loop-job-preserved c =
     let e : c.push.new.self.items ≡ c.loop-job.numbers.items ++ c.loop-job.job ∷ [] = search rules in
     let z : 0 + c.loop-job.job ≡ c.loop-job.job = omega arith in
-    e ∙ ap (λ xs. xs ++ c.loop-job.job ∷ []) c.loop-job.invariant ∙ sym (range-append 0 c.loop-job.job 1 ∙ ap (λ k. range_with_len 0 c.loop-job.job ++ k ∷ []) z)
+    e ∙ ap (λ xs. xs ++ c.loop-job.job ∷ []) c.loop-job.invariant
+    ∙ sym (range-append 0 c.loop-job.job 1 ∙ ap (λ k. range_with_len 0 c.loop-job.job ++ k ∷ []) z)
