@@ -1,5 +1,6 @@
 -- What the entries of a packet bring to the totals of a stripe, one after the other.
-use Rattle.std.proofs.Common.{◌≡◌, ◌≢◌, ℕ, zero, suc, ◌+◌, ◌*◌, ◌/◌, ◌%◌, ◌<◌, ◌≤◌, eqb, Bool, true, false, if◌then◌else◌, List, [], ◌∷◌, ◌++◌, length, set, take, refl, sym, ap, ◌∙◌, subst, arith, ℤ, pos, ◌+ℤ◌, get_or-set_other, get_or-set_same}
+use Rattle.std.proofs.Common.{◌≡◌, ◌≢◌, ℕ, zero, suc, ◌+◌, ◌*◌, ◌/◌, ◌%◌, ◌<◌, ◌≤◌, eqb, Bool, true, false, if◌then◌else◌, List, [], ◌∷◌, ◌++◌}
+use Rattle.std.proofs.Common.{length, set, take, refl, sym, ap, ◌∙◌, subst, arith, ℤ, pos, ◌+ℤ◌, get_or-set_other, get_or-set_same}
 use Rattle.std.specs.Prelude.{slice_index_or, unsigned_abs}
 use Rattle.std.proofs.lemmas.Bool.Decides.{nat_tests}
 use Rattle.std.proofs.lemmas.List.{take_more, length-set, take_all}
@@ -82,13 +83,15 @@ grown_by_other index stripes row amount totals is_stripe other = record {
   length_kept = refl;
   grown = λ place under.
       let apart : row ≢ place * stripes + index = (λ same. other (ap (λ r. r % stripes) same ∙ mod-mul-add place stripes index is_stripe)) in
-      sym (ap (λ v. slice_index_or totals place (pos 0) +ℤ v) (other_brings row (place * stripes + index) amount apart) ∙ +ℤ-zero (slice_index_or totals place (pos 0)));
+      let was : ℤ = slice_index_or totals place (pos 0) in
+      sym (ap (λ v. was +ℤ v) (other_brings row (place * stripes + index) amount apart) ∙ +ℤ-zero was);
 }
 
 -- a row of this stripe changes its own total
 pub grown_by_own : (index stripes row : ℕ) (amount : ℤ) (totals : List ℤ) → index < stripes
     → stripe_of stripes row ≡ index → place_of stripes row < length totals
-    → HasGrown (record { row = row; amount = amount } ∷ []) index stripes totals (set totals (place_of stripes row) (slice_index_or totals (place_of stripes row) (pos 0) +ℤ amount))
+    → HasGrown (record { row = row; amount = amount } ∷ []) index stripes totals
+    (set totals (place_of stripes row) (slice_index_or totals (place_of stripes row) (pos 0) +ℤ amount))
 grown_by_own index stripes row amount totals is_stripe here under = record {
   length_kept = length-set totals (row / stripes) (slice_index_or totals (row / stripes) (pos 0) +ℤ amount);
   grown = λ place in_range. by_place place in_range (eqb place (row / stripes)) refl;
@@ -110,7 +113,8 @@ grown_by_own index stripes row amount totals is_stripe here under = record {
         let apart : place ≢ at = grind (arith, nat_tests) in
         let other : row ≢ place * stripes + index = (λ same. apart (sym (ap (λ r. r / stripes) same ∙ div-mul-add place stripes index is_stripe))) in
         get_or-set_other totals at place (slice_index_or totals at (pos 0) +ℤ amount) (pos 0) apart
-        ∙ sym (ap (λ v. slice_index_or totals place (pos 0) +ℤ v) (other_brings row (place * stripes + index) amount other) ∙ +ℤ-zero (slice_index_or totals place (pos 0)))
+        ∙ sym (ap (λ v. slice_index_or totals place (pos 0) +ℤ v) (other_brings row (place * stripes + index) amount other)
+        ∙ +ℤ-zero (slice_index_or totals place (pos 0)))
 
 -- a row of the stripe has a place there
 pub place_there : (stripes rows index row : ℕ) → index < stripes → row < rows → stripe_of stripes row ≡ index
@@ -151,14 +155,36 @@ pub small_before : (entries : List RowAmount) (i index stripes row bound : ℕ) 
     → ((place : ℕ) → place < length old → unsigned_abs (slice_index_or old place (pos 0)) ≤ bound)
     → unsigned_abs (slice_index_or middle (place_of stripes row) (pos 0)) ≤ bound
 small_before entries i index stripes row bound old middle rising below row_is =
-    subst (λ (r : ℕ). stripe_of stripes r ≡ index → place_of stripes r < length old → HasGrown (take i entries) index stripes old middle → ((place : ℕ) → place < length old → unsigned_abs (slice_index_or old place (pos 0)) ≤ bound) → unsigned_abs (slice_index_or middle (place_of stripes r) (pos 0)) ≤ bound)
-    (sym row_is) (λ here under grown small. rw (total_before entries i index stripes old middle rising below here under grown) (small (place_of stripes (entry_in entries i).row) under))
+    subst
+    (λ (r : ℕ). stripe_of stripes r ≡ index → place_of stripes r < length old → HasGrown (take i entries) index stripes old middle
+    → ((place : ℕ) → place < length old → unsigned_abs (slice_index_or old place (pos 0)) ≤ bound)
+    → unsigned_abs (slice_index_or middle (place_of stripes r) (pos 0)) ≤ bound)
+    (sym row_is)
+    (λ here under grown small.
+    rw (total_before entries i index stripes old middle rising below here under grown) (small (place_of stripes (entry_in entries i).row) under))
 
--- an entry of a packet: its row is one of the rows, and its amount the job's there
-pub entry_of_packet : (amount : ℕ → ℕ → ℤ) (rows job : ℕ) (entries : List RowAmount) (i : ℕ)
-    → IsPacketOf amount rows job entries → i < length entries
-    → ((entry_in entries i).row < rows) × ((entry_in entries i).amount ≡ amount job (entry_in entries i).row)
-entry_of_packet amount rows job entries i packet below = (packet.are_rows i (record { row = 0; amount = pos 0 }) below, packet.have_amounts i (record { row = 0; amount = pos 0 }) below)
+-- an entry of a job's packet in a stripe: its row is one of the rows, it has a place there, and its amount is the job's
+pub record IsReadEntry (amount : ℕ → ℕ → ℤ) (rows job index stripes row : ℕ) (its : ℤ) : Type 0 where
+  pub is_row : row < rows
+  pub here : stripe_of stripes row ≡ index
+  pub there : place_of stripes row < place_count stripes rows index
+  pub amount_is : its ≡ amount job row
+
+-- so it is as it was read
+pub read_entry : {amount : ℕ → ℕ → ℤ} {rows job : ℕ} {entries : List RowAmount} {i index stripes row : ℕ} {its : ℤ}
+    → IsPacketOf amount rows job entries → i < length entries → index < stripes → row ≡ (entry_in entries i).row
+    → its ≡ (entry_in entries i).amount → stripe_of stripes (entry_in entries i).row ≡ index
+    → IsReadEntry amount rows job index stripes row its
+read_entry {amount} {rows} {job} {entries} {i} {index} {stripes} {row} packet below is_stripe row_is amount_read own =
+    let nothing : RowAmount = record { row = 0; amount = pos 0 } in
+    let is_row : row < rows = rw row_is (packet.are_rows i nothing below) in
+    let here : stripe_of stripes row ≡ index = ap (stripe_of stripes) row_is ∙ own in
+    record {
+      is_row = is_row;
+      here = here;
+      there = place_there stripes rows index row is_stripe is_row here;
+      amount_is = amount_read ∙ packet.have_amounts i nothing below ∙ ap (amount job) (sym row_is);
+    }
 
 -- one entry more, as it was read
 pub grown_by_read : (entries : List RowAmount) (i index stripes row : ℕ) (amount : ℤ) (old middle new : List ℤ)

@@ -1,5 +1,6 @@
 -- Chains through the places of rows, linked from the last row to the first, and what is found along them.
-use Rattle.std.proofs.Common.{◌≡◌, ◌≢◌, ℕ, zero, suc, ◌+◌, ◌-◌, ◌<◌, ◌≤◌, List, [], ◌∷◌, length, set, take, refl, sym, ap, subst, ◌∙◌, arith, ⊎_elim, get_or-set_other, get_or-set_same}
+use Rattle.std.proofs.Common.{◌≡◌, ◌≢◌, ℕ, zero, suc, ◌+◌, ◌-◌, ◌<◌, ◌≤◌, List, [], ◌∷◌, length, set, take}
+use Rattle.std.proofs.Common.{refl, sym, ap, subst, ◌∙◌, arith, ⊎_elim, get_or-set_other, get_or-set_same}
 use Rattle.std.specs.Prelude.{ℤ, slice_index}
 use Rattle.std.proofs.lemmas.List.{length-map}
 use Rattle.std.proofs.lemmas.Bool.{cases_eq}
@@ -45,6 +46,9 @@ own_place stripes rows i below = record {
   others = λ j low high. absurd (omega arith);
 }
 
+above : (i j : ℕ) → i ≢ j → i ≤ j → i + 1 ≤ j
+above i j apart low = grind arith
+
 -- and is passed by the other stripes
 past_place : (stripes stripe : ℕ) (rows : List ℕ) (i place : ℕ) → stripe_of stripes (slice_index rows i) ≢ stripe
     → IsNextOf stripes stripe rows (i + 1) place → IsNextOf stripes stripe rows i place
@@ -58,9 +62,6 @@ past_place stripes stripe rows i place apart behind = record {
       (λ there. let later : i + 1 ≤ j = above i j there low in behind.others j later high)
       (cases_eq i j);
 }
-  where
-    above : (i j : ℕ) → i ≢ j → i ≤ j → i + 1 ≤ j
-    above i j apart low = grind arith
 
 -- one place more is linked
 pub linked_more : (i stripe stripes : ℕ) (rows first next : List ℕ) → stripe ≡ stripe_of stripes (slice_index rows i)
@@ -91,9 +92,6 @@ linked_more i stripe stripes rows first next stripe_is below there known few lin
       (linked.nexts j later high))
       (cases_eq i j);
 }
-  where
-    above : (i j : ℕ) → i ≢ j → i ≤ j → i + 1 ≤ j
-    above i j apart low = grind arith
 
 -- the rows of entries are those that they are made of
 pub rows_of-entries_from : (rows : List ℕ) (amounts : List ℤ) → length rows ≡ length amounts

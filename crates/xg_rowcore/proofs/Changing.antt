@@ -22,4 +22,6 @@ rising_set [] i amount below rising = rising
 rising_set (entry ∷ entries) zero amount below rising = rising
 rising_set (entry ∷ entries) (suc i) amount below (first, rising) =
     let inside : i < length entries = omega arith in
-    (All-set (λ (later : RowAmount). entry.row < later.row) entries i (record { row = (entry_in entries i).row; amount = amount }) (first i (record { row = 0; amount = pos 0 }) inside) first, rising_set entries i amount inside rising)
+    let after : RowAmount → Type 0 = λ later. entry.row < later.row in
+    let put : RowAmount = record { row = (entry_in entries i).row; amount = amount } in
+    (All-set after entries i put (first i (record { row = 0; amount = pos 0 }) inside) first, rising_set entries i amount inside rising)

@@ -3,3 +3,4 @@ pub mod Adding
 pub mod Histories
 pub mod Changing
 pub mod Chaining
+pub mod Viewed

@@ -35,6 +35,10 @@ with_added entries i more =
 abbrev pub with_amount : List RowAmount → ℕ → ℤ → List RowAmount
 with_amount entries i amount = slice_set entries i (record { row = (entry_in entries i).row; amount = amount })
 
+-- these rows with their amounts
+abbrev pub entries_at_rows : (ℕ → ℤ) → List ℕ → List RowAmount
+entries_at_rows amount rows = map (λ row. record { row = row; amount = amount row }) rows
+
 -- each row with the amount 0
 abbrev pub zeros_at : List ℕ → List RowAmount
-zeros_at rows = map (λ row. record { row = row; amount = pos 0 }) rows
+zeros_at rows = entries_at_rows (λ _. pos 0) rows

@@ -1,6 +1,7 @@
 //! Amounts in 64 bits as long as each has room there, else in 128.
-ghost use Rattle.std.specs.Prelude.{◌≡◌, ◌<◌, ◌≤◌, ◌+◌, ◌^◌, ◌++◌, ◌+ℤ◌, [], ◌∷◌, length, replicate, pos, unsigned_abs, IfOk};
-ghost use Rattle.std.specs.Prelude.{slice_index_or, slice_set, vec_capacity};
+ghost use Rattle.std.specs.Prelude.{◌≡◌, ◌<◌, ◌≤◌, ◌+◌, ◌^◌, ◌++◌, ◌+ℤ◌, [], ◌∷◌, length, replicate, pos, unsigned_abs};
+ghost use Rattle.std.specs.Prelude.{IfOk, IfSome, IfNone, slice_index_or, slice_set, vec_capacity, true, false};
+ghost use Rattle.xg_rowcore.specs.Amounts.{in_width};
 
 use std::alloc::{AllocError, Global};
 use std::marker::Model;
@@ -40,6 +41,12 @@ impl Amounts {
         })
     }
 
+    pub(crate) fn room(&self) -> usize
+        ensures { result ≡ self.now.room }
+    {
+        self.room
+    }
+
     pub(crate) fn len(&self) -> usize
         ensures { result ≡ length self.now.list }
     {
@@ -74,30 +81,20 @@ impl Amounts {
         requires { length self.old.list < self.old.room }
         ensures { self.new ≡ record { list = self.old.list ++ amount ∷ []; room = self.old.room } }
     {
-        if !self.is_wide {
-            if let Ok(small) = i64::try_from(amount) {
-                self.small.push_reserved(small);
-                return;
-            }
-            widen_into(&self.small, &mut self.wide);
-            self.is_wide = true;
+        match small_or_widen(amount, &self.small, &mut self.wide, &mut self.is_wide) {
+            Some(small) => self.small.push_reserved(small),
+            None => self.wide.push_reserved(amount),
         }
-        self.wide.push_reserved(amount);
     }
 
     pub(crate) fn put(&mut self, i: usize, amount: i128)
         requires { i < length self.old.list }
         ensures { self.new ≡ record { list = slice_set self.old.list i amount; room = self.old.room } }
     {
-        if !self.is_wide {
-            if let Ok(small) = i64::try_from(amount) {
-                self.small[i] = small;
-                return;
-            }
-            widen_into(&self.small, &mut self.wide);
-            self.is_wide = true;
+        match small_or_widen(amount, &self.small, &mut self.wide, &mut self.is_wide) {
+            Some(small) => self.small[i] = small,
+            None => self.wide[i] = amount,
         }
-        self.wide[i] = amount;
     }
 
     pub(crate) fn add(&mut self, i: usize, more: i128)
@@ -127,6 +124,31 @@ fn fill_zeros(small: &mut Vec<i64>, count: usize)
 {
     small.clear();
     let _fits = small.resize(count, 0);
+}
+
+// The amount in 64 bits, where all others are and it has room there. Else all are in 128 bits from then on.
+#[inline(always)]
+fn small_or_widen(
+    amount: i128,
+    small: &[i64],
+    wide: &mut Vec<i128>,
+    is_wide: &mut bool,
+) -> Option<i64>
+    requires { is_wide.old ≡ false → length small.now ≤ vec_capacity wide.old }
+    ensures small { IfSome result (λ a. (a ≡ amount) × (is_wide.new ≡ false)) }
+    ensures wide { IfNone result (is_wide.new ≡ true) }
+    ensures same { in_width is_wide.new small.now wide.new.items ≡ in_width is_wide.old small.now wide.old.items }
+    ensures room { vec_capacity wide.new ≡ vec_capacity wide.old }
+{
+    if *is_wide {
+        return None;
+    }
+    if let Ok(in_small) = i64::try_from(amount) {
+        return Some(in_small);
+    }
+    widen_into(small, wide);
+    *is_wide = true;
+    None
 }
 
 fn widen_into(small: &[i64], wide: &mut Vec<i128>)

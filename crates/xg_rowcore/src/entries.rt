@@ -19,7 +19,6 @@ use std::marker::Model;
 pub(crate) struct RowEntries {
     rows: Vec<u32>,
     amounts: Amounts,
-    room: usize,
     chains: Chains,
 }
 
@@ -33,14 +32,14 @@ impl Model for RowEntries {
 
     ghost view = { λ e. record {
       list = entries_of_rows e.rows.items e.amounts.list;
-      room = e.room;
+      room = e.amounts.room;
       chained = e.chains.stripes;
     } };
 
     ghost invariant = { λ e. (length e.rows.items ≡ length e.amounts.list)
         × AreRising (entries_of_rows e.rows.items e.amounts.list)
-        × (e.room ≤ vec_capacity e.rows) × (e.room ≤ e.amounts.room) × (length e.rows.items ≤ e.room)
-        × KeepsChains e.rows.items e.room e.chains.stripes e.chains.first.items e.chains.next.items };
+        × (e.amounts.room ≤ vec_capacity e.rows) × (length e.rows.items ≤ e.amounts.room)
+        × KeepsChains e.rows.items e.amounts.room e.chains.stripes e.chains.first.items e.chains.next.items };
 }
 
 impl RowEntries {
@@ -53,7 +52,6 @@ impl RowEntries {
         Ok(RowEntries {
             rows,
             amounts,
-            room,
             chains,
         })
     }
@@ -61,7 +59,7 @@ impl RowEntries {
     pub(crate) fn room(&self) -> usize
         ensures { result ≡ self.now.room }
     {
-        self.room
+        self.amounts.room()
     }
 
     pub(crate) fn len(&self) -> usize
@@ -160,8 +158,8 @@ impl RowEntries {
     pub(crate) fn next_of(&self, stripes: u32, i: usize) -> usize
         requires stripes { 0 < stripes }
         requires there { i < length self.now.list }
-        ensures { IsNextOf stripes (stripe_of stripes (entry_in self.now.list i).row) (rows_of_entries self.now.list) (i + 1)
-            result }
+        ensures { let stripe = stripe_of stripes (entry_in self.now.list i).row in
+            IsNextOf stripes stripe (rows_of_entries self.now.list) (i + 1) result }
     {
         if self.chains.stripes == stripes {
             self.chains.next[i] as usize

@@ -36,7 +36,7 @@ impl Model for LinkedRows {
 }
 
 impl LinkedRows {
-    /// Links these rows.
+    /// Takes the rows, which rise, and makes their chains for 16 stripes, the usual number.
     pub fn new(alloc: Global, rows: Vec<u32>) -> Result<LinkedRows, AllocError>
         requires rising { IsStrictlyIncreasing rows.items }
         requires few { length rows.items < 2 ^ 32 }

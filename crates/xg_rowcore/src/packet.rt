@@ -63,7 +63,8 @@ impl Packet {
         self.entries.clear();
     }
 
-    /// The rows of another job with their chains, each with the amount 0.
+    /// Takes the rows of another job in the place of its own, each with the amount 0. Their chains come with them: for
+    /// the usual number of stripes they needn't be grouped.
     pub fn start_with(&mut self, job: u32, rows: &LinkedRows)
         requires room { length rows.now ≤ self.old.entries.room }
         ensures job { self.new.job ≡ job }

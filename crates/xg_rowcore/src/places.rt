@@ -2,8 +2,8 @@
 ghost use Rattle.std.specs.Prelude.{◌≡◌, ◌<◌};
 ghost use Rattle.def_history.specs.History as history;
 
-/// The number of stripes that the program's rows are cut into. Dividing by a number that is known takes no division, and
-/// this is done for each entry.
+/// The number of stripes that the program's rows are cut into. Dividing by a number that is known takes no division,
+/// and this is done for each entry.
 pub const USUAL_STRIPES: u32 = 16;
 
 /// The row's stripe.

@@ -1,23 +1,25 @@
 -- The first leaf of a job that has a row.
-use Rattle.std.proofs.Common.{◌≡◌, ℕ, zero, suc, ◌+◌, ◌-◌, ◌<◌, ◌≤◌, Bool, true, false, cond, eqb, ltb, List, [], ◌∷◌, length, get_or, set, map, take, drop, refl, ap, sym, subst, ◌∙◌, arith, ⊎_elim, le-ltb, lt-ltb, length-set, get_or-set_other, get_or-set_same, Some, None}
+use Rattle.std.proofs.Common.{◌≡◌, ℕ, zero, suc, ◌+◌, ◌-◌, ◌<◌, ◌≤◌, Bool, true, false, cond, eqb, ltb, List, [], ◌∷◌, length, get_or, set}
+use Rattle.std.proofs.Common.{map, take, drop, refl, ap, sym, subst, ◌∙◌, arith, ⊎_elim, le-ltb, lt-ltb, length-set, Some, None}
+use Rattle.std.proofs.Common.{get_or-set_other, get_or-set_same}
 use Rattle.std.specs.Prelude.{◌+ℤ◌, Contains, pos, slice_index, unwrap_or}
 use Rattle.std.specs.List.Sorted.{IsStrictlyIncreasing}
 use Rattle.std.proofs.Math.Seq.{drop-cons, drop-length}
 use Rattle.std.proofs.lemmas.Bool.{cases_eq, cond-true, cond-false}
-use Rattle.std.proofs.lemmas.List.{ext_get_or, get_or-drop, get_or-map, get_or-take, length-drop, length-map, length-take}
+use Rattle.std.proofs.lemmas.List.{ext_get_or, get_or-drop, get_or-map, get_or-take, get_or_default, length-drop, length-map, length-take}
 use Rattle.def_tree.specs.declared.Player.{Player}
 use Rattle.def_tree.specs.declared.Player.TheVariants.{One, Two}
 use Rattle.def_plan.specs.Form.{SequenceForm, Leaf, sequence_count}
 use Rattle.def_plan.specs.Payoff.{leaf_sum}
 use Rattle.def_plan.specs.Threads.{first_leaf_from}
-use Rattle.def_plan.proofs.Rows.{in_row_of_one, in_row_of_two}
+use Rattle.def_plan.proofs.Rows.{in_row_of_two}
 use Rattle.def_history.specs.Ranges.{LeafRange}
 use Rattle.def_history.specs.JobPackets.{has_row, touched_rows}
 use Rattle.def_history.specs.JobRows.{form_leaf, job_leaves}
 use Rattle.def_history.proofs.JobPackets.{touched_rows_are_exact}
 use Rattle.xg_touched.specs.Filling.{amount_upto}
 use Rattle.xg_touched.specs.Threads.{leaf_numbered, leaf_product, leaves_after, thread_sum}
-use Rattle.xg_touched.specs.Touched.{both_rows, first_leaves_with, first_with_row}
+use Rattle.xg_touched.specs.Touched.{IsRowOf, JobRows, both_rows, first_leaves_with, first_with_row, job_rows, sequence_of_row}
 use Rattle.xg_touched.proofs.Following.{goes_on}
 use Rattle.xg_touched.proofs.Rising.{differ}
 use Rattle.xg_touched.proofs.Touching.{has_one, has_two, which_row}
@@ -90,39 +92,56 @@ thread_from player leaves against s first count leaf within e =
       from_one = omega (arith, step.after);
       in_order = step.within;
       sum =
-          ap (λ k. leaf_product player against (leaf_numbered leaves leaf) +ℤ leaf_sum player (leaves_after leaves leaf (first + count)) against k) step.own
+          ap
+          (λ k. leaf_product player against (leaf_numbered leaves leaf) +ℤ leaf_sum player (leaves_after leaves leaf (first + count)) against k)
+          step.own
           ∙ sym step.sum ∙ ap (λ k. leaf_sum player (take k (drop first leaves)) against s) (sym all);
     }
 
--- from the first leaf of a job that has a row of player one, it brings what the job does
-pub thread_of_one : (form : SequenceForm) (one two : List ℕ) (range : LeafRange) (row leaf : ℕ)
-    → range.first + range.count ≤ length form.leaves → row < sequence_count form.sets_one
-    → first_with_row form row (range.first + 1) (job_leaves form range) ≡ Some leaf
-    → IsThread One form.leaves two leaf (range.first + range.count) (amount_upto form one two range.first range.count row)
-thread_of_one form one two range row leaf within below e =
-    let found = sym (cond-true (ltb row (sequence_count form.sets_one)) (first_leaf_from One row (range.first + 1) (job_leaves form range)) (first_leaf_from Two (row - sequence_count form.sets_one) (range.first + 1) (job_leaves form range)) (lt-ltb row (sequence_count form.sets_one) below)) ∙ e in
-    subst (IsThread One form.leaves two leaf (range.first + range.count)) (sym (in_row_of_one form one two (job_leaves form range) row below))
-    (thread_from One form.leaves two row range.first range.count leaf within found)
+-- the first leaf that has a row of a player is the first that has its sequence
+first_of_row : (player : Player) (form : SequenceForm) (row z : ℕ) (leaves : List Leaf) (n : ℕ) → IsRowOf player form row
+    → first_with_row form row z leaves ≡ Some n → first_leaf_from player (sequence_of_row player form row) z leaves ≡ Some n
+first_of_row One form row z leaves n below e = sym (cond-true (ltb row (sequence_count form.sets_one)) _ _ (lt-ltb row _ below)) ∙ e
+first_of_row Two form row z leaves n past e = sym (cond-false (ltb row (sequence_count form.sets_one)) _ _ (le-ltb row _ past)) ∙ e
 
--- and so for a row of player two
-pub thread_of_two : (form : SequenceForm) (one two : List ℕ) (range : LeafRange) (row leaf : ℕ)
-    → range.first + range.count ≤ length form.leaves → sequence_count form.sets_one ≤ row
-    → first_with_row form row (range.first + 1) (job_leaves form range) ≡ Some leaf
-    → IsThread Two form.leaves one leaf (range.first + range.count) (amount_upto form one two range.first range.count row)
-thread_of_two form one two range row leaf within past e =
+-- from the noted leaf of a row on, its thread brings what the job does
+pub thread_at : (player : Player) (form : SequenceForm) (against : List ℕ) (job : JobRows) (i leaf : ℕ)
+    → job ≡ job_rows form job.range → job.range.first + job.range.count ≤ length form.leaves → i < length job.rows
+    → IsRowOf player form (slice_index job.rows i) → leaf ≡ get_or job.first_leaves i leaf
+    → IsThread player form.leaves against leaf (job.range.first + job.range.count)
+    (leaf_sum player (job_leaves form job.range) against (sequence_of_row player form (slice_index job.rows i)))
+thread_at player form against job i leaf is within there own read =
+    let leaves : List Leaf = job_leaves form job.range in
+    let row : ℕ = slice_index job.rows i in
+    let rows_are : job.rows ≡ touched_rows form leaves = ap (λ (x : JobRows). x.rows) is in
+    let firsts_are : job.first_leaves ≡ first_leaves_with form (job.range.first + 1) leaves job.rows =
+    ap (λ (x : JobRows). x.first_leaves) is ∙ ap (first_leaves_with form (job.range.first + 1) leaves) (sym rows_are) in
+    let found = first_read form (job.range.first + 1) leaves job.rows job.first_leaves i row leaf rows_are firsts_are there
+    (get_or_default job.rows i 0 row there) read in
+    thread_from player form.leaves against (sequence_of_row player form row) job.range.first job.range.count leaf within
+    (first_of_row player form row (job.range.first + 1) leaves leaf own found)
+
+-- a row of player two by what its leaves add
+pub amount_of_two : (form : SequenceForm) (one two : List ℕ) (range : LeafRange) (row : ℕ) → sequence_count form.sets_one ≤ row
+    → leaf_sum Two (job_leaves form range) one (row - sequence_count form.sets_one)
+    ≡ amount_upto form one two range.first range.count row
+amount_of_two form one two range row past =
     let s : ℕ = row - sequence_count form.sets_one in
     let row_is : sequence_count form.sets_one + s ≡ row = omega arith in
-    let found = sym (cond-false (ltb row (sequence_count form.sets_one)) (first_leaf_from One row (range.first + 1) (job_leaves form range)) (first_leaf_from Two s (range.first + 1) (job_leaves form range)) (le-ltb row (sequence_count form.sets_one) past)) ∙ e in
-    subst (λ r. IsThread Two form.leaves one leaf (range.first + range.count) (amount_upto form one two range.first range.count r)) row_is
-    (subst (IsThread Two form.leaves one leaf (range.first + range.count)) (sym (in_row_of_two form one two (job_leaves form range) s))
-    (thread_from Two form.leaves one s range.first range.count leaf within found))
+    sym (in_row_of_two form one two (job_leaves form range) s) ∙ ap (λ r. amount_upto form one two range.first range.count r) row_is
 
 -- ---- putting the first leaves, from the last leaf to the first
+-- the first leaf behind k of the job's leaves that has the row, or 0
+abbrev pub first_behind : SequenceForm → ℕ → ℕ → ℕ → ℕ → ℕ
+first_behind form first count k row =
+    let leaves = job_leaves form (record { first = first; count = count }) in
+    unwrap_or (first_with_row form row (first + k + 1) (drop k leaves)) 0
+
 -- of each row the first leaf behind k of the job's leaves
 abbrev pub AreFirstBehind : SequenceForm → ℕ → ℕ → ℕ → List ℕ → List ℕ → Type 0
 AreFirstBehind form first count k rows found =
     (j : ℕ) → j < length rows
-    → slice_index found j ≡ unwrap_or (first_with_row form (slice_index rows j) (first + k + 1) (drop k (job_leaves form (record { first = first; count = count })))) 0
+    → slice_index found j ≡ first_behind form first count k (slice_index rows j)
 
 pub none_behind : (form : SequenceForm) (first count : ℕ) (rows found : List ℕ) → first + count ≤ length form.leaves
     → ((j : ℕ) → j < length rows → slice_index found j ≡ 0) → AreFirstBehind form first count count rows found
@@ -130,8 +149,10 @@ none_behind form first count rows found within none j below =
     let leaves : List Leaf = job_leaves form (record { first = first; count = count }) in
     let long : count ≡ length leaves = omega (arith, length-take count (drop first form.leaves), length-drop first form.leaves) in
     let past : drop count leaves ≡ [] = ap (λ k. drop k leaves) long ∙ drop-length leaves in
+    let row : ℕ = slice_index rows j in
     none j below
-    ∙ sym (ap (λ zs. unwrap_or (first_with_row form (slice_index rows j) (first + count + 1) zs) 0) past ∙ ap (λ o. unwrap_or o 0) (first_nil form (slice_index rows j) (first + count + 1)))
+    ∙ sym (ap (λ zs. unwrap_or (first_with_row form row (first + count + 1) zs) 0) past
+    ∙ ap (λ o. unwrap_or o 0) (first_nil form row (first + count + 1)))
 
 module _ (form : SequenceForm) (first count k : ℕ) (rows found : List ℕ) (one two : ℕ)
     (within : first + count ≤ length form.leaves) (low : k < count) (up : IsStrictlyIncreasing rows)
@@ -154,16 +175,20 @@ module _ (form : SequenceForm) (first count k : ℕ) (rows found : List ℕ) (on
       let read : get_or leaves k d ≡ x = get_or-take count (drop first form.leaves) k d low ∙ get_or-drop first form.leaves k d in
       drop-cons leaves k d inside ∙ (λ i. read i ∷ drop (next i) leaves)
 
-  here : (row : ℕ) → has_row form x row ≡ true
-      → unwrap_or (first_with_row form row (first + k + 1) (drop k leaves)) 0 ≡ first + k + 1
-  here row has = ap (λ o. unwrap_or o 0) (ap (first_with_row form row (first + k + 1)) split ∙ first_cons form row (first + k + 1) x (drop (k + 1) leaves) ∙ cond-true (has_row form x row) (Some (first + k + 1)) (first_with_row form row (first + k + 1 + 1) (drop (k + 1) leaves)) has)
+  -- the leaf behind k others, or those behind it
+  at_split : (row : ℕ) → first_with_row form row (first + k + 1) (drop k leaves)
+      ≡ cond (has_row form x row) (Some (first + k + 1)) (first_with_row form row (first + k + 1 + 1) (drop (k + 1) leaves))
+  at_split row = ap (first_with_row form row (first + k + 1)) split ∙ first_cons form row (first + k + 1) x (drop (k + 1) leaves)
+
+  here : (row : ℕ) → has_row form x row ≡ true → first_behind form first count k row ≡ first + k + 1
+  here row has = ap (λ o. unwrap_or o 0) (at_split row ∙ cond-true (has_row form x row) _ _ has)
 
   elsewhere : (row : ℕ) → has_row form x row ≡ false
-      → unwrap_or (first_with_row form row (first + k + 1) (drop k leaves)) 0
-      ≡ unwrap_or (first_with_row form row (first + (k + 1) + 1) (drop (k + 1) leaves)) 0
+      → first_behind form first count k row ≡ first_behind form first count (k + 1) row
   elsewhere row has =
       let number : first + k + 1 + 1 ≡ first + (k + 1) + 1 = omega arith in
-      ap (λ o. unwrap_or o 0) (ap (first_with_row form row (first + k + 1)) split ∙ first_cons form row (first + k + 1) x (drop (k + 1) leaves) ∙ cond-false (has_row form x row) (Some (first + k + 1)) (first_with_row form row (first + k + 1 + 1) (drop (k + 1) leaves)) has ∙ ap (λ m. first_with_row form row m (drop (k + 1) leaves)) number)
+      let behind = ap (λ m. first_with_row form row m (drop (k + 1) leaves)) number in
+      ap (λ o. unwrap_or o 0) (at_split row ∙ cond-false (has_row form x row) _ _ has ∙ behind)
 
   not_there : (j : ℕ) → j < length rows → (j ≡ one → ⊥) → (j ≡ two → ⊥) → has_row form x (slice_index rows j) ≡ false
   not_there j below apart_one apart_two = by_test (has_row form x (slice_index rows j)) refl
@@ -182,16 +207,18 @@ module _ (form : SequenceForm) (first count k : ℕ) (rows found : List ℕ) (on
   first_put j below =
       let m : ℕ = first + k + 1 in
       let known = length-set found one m in
+      let at_one = here (slice_index rows one) (ap (has_row form x) is_one ∙ has_one form x fit) in
+      let at_two = here (slice_index rows two) (ap (has_row form x) is_two ∙ has_two form x) in
       ⊎_elim
       (λ at.
       ap (slice_index (set (set found one m) two m)) at ∙ get_or-set_same (set found one m) two m 0 (omega arith)
-      ∙ sym (ap (λ r. unwrap_or (first_with_row form r m (drop k leaves)) 0) (ap (slice_index rows) at) ∙ here (slice_index rows two) (ap (has_row form x) is_two ∙ has_two form x)))
+      ∙ sym (ap (λ r. first_behind form first count k r) (ap (slice_index rows) at) ∙ at_two))
       (λ apart_two.
       get_or-set_other (set found one m) two j m 0 apart_two
       ∙ ⊎_elim
       (λ at.
       ap (slice_index (set found one m)) at ∙ get_or-set_same found one m 0 (omega arith)
-      ∙ sym (ap (λ r. unwrap_or (first_with_row form r m (drop k leaves)) 0) (ap (slice_index rows) at) ∙ here (slice_index rows one) (ap (has_row form x) is_one ∙ has_one form x fit)))
+      ∙ sym (ap (λ r. first_behind form first count k r) (ap (slice_index rows) at) ∙ at_one))
       (λ apart_one.
       get_or-set_other found one j m 0 apart_one ∙ behind j below
       ∙ sym (elsewhere (slice_index rows j) (not_there j below apart_one apart_two)))

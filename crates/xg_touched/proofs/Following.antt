@@ -1,6 +1,7 @@
 -- The leaves of a thread, one after the other, and what they bring to their sequence.
-use Rattle.std.proofs.Common.{◌≡◌, ℕ, zero, suc, ◌+◌, ◌-◌, ◌<◌, ◌≤◌, Bool, true, false, cond, eqb, List, [], ◌∷◌, length, get_or, filter, take, drop, refl, ap, sym, ◌∙◌, arith, eqb-true, Some, None}
-use Rattle.std.specs.Prelude.{pos, ◌+ℤ◌}
+use Rattle.std.proofs.Common.{◌≡◌, ℕ, zero, suc, ◌+◌, ◌-◌, ◌<◌, ◌≤◌, Bool, true, false, cond, eqb, List, [], ◌∷◌, length}
+use Rattle.std.proofs.Common.{get_or, filter, take, drop, refl, ap, sym, ◌∙◌, arith, eqb-true, Some, None}
+use Rattle.std.specs.Prelude.{Option, pos, ◌+ℤ◌}
 use Rattle.std.proofs.lemmas.List.{drop-drop, drop-take, get_or-drop, get_or-map, get_or-take, length-drop, length-take}
 use Rattle.def_sums.specs.Sum.{sum_over}
 use Rattle.def_tree.specs.declared.Player.{Player}
@@ -145,3 +146,12 @@ goes_on player leaves against s z last n order there e =
       own = get_or-map (leaf_sequence player) leaves (n - 1) none 0 (omega arith) ∙ ap (leaf_sequence player) (sym read) ∙ f.own none;
       sum = f.sum none ∙ (λ i. leaf_product player against (read i) +ℤ leaf_sum player (rest i) against s);
     }
+
+-- the next leaf of the thread of a leaf, as it was found
+pub next_goes_on : (player : Player) (leaves : List Leaf) (against : List ℕ) (leaf z last n : ℕ) (found : Option ℕ) → z ≤ last
+    → last ≤ length leaves → sequence_of_leaf player z leaves ≡ sequence_of_leaf player leaf leaves
+    → found ≡ first_leaf_from player (sequence_of_leaf player z leaves) (z + 1) (leaves_after leaves z last) → found ≡ Some n
+    → GoesOn player leaves against (sequence_of_leaf player leaf leaves) z last n
+next_goes_on player leaves against leaf z last n found order there own search_is is =
+    goes_on player leaves against (sequence_of_leaf player leaf leaves) z last n order there
+    (ap (λ k. first_leaf_from player k (z + 1) (leaves_after leaves z last)) (sym own) ∙ sym search_is ∙ is)

@@ -15,7 +15,9 @@ use Rattle.xg_touched.specs.Touched.{both_rows}
 -- a leaf by its number, which counts from 1
 pub leaf_read : (form : SequenceForm) (before : ℕ) (x : Leaf) → slice_get form.leaves (before + 1 - 1) ≡ Some x
     → form_leaf form before ≡ x
-leaf_read form before x e = get_or_from_slice_get form.leaves before x (record { sequence_one = 0; sequence_two = 0; weight = pos 0 }) (subst (λ k. slice_get form.leaves k ≡ Some x) (add-sub_cancel before 1) e)
+leaf_read form before x e =
+    let nothing : Leaf = record { sequence_one = 0; sequence_two = 0; weight = pos 0 } in
+    get_or_from_slice_get form.leaves before x nothing (subst (λ k. slice_get form.leaves k ≡ Some x) (add-sub_cancel before 1) e)
 
 -- one more leaf of a job
 pub leaves_more : (form : SequenceForm) (first k : ℕ) → first + k < length form.leaves
@@ -41,8 +43,12 @@ pub leaf_there : (form : SequenceForm) (first count k : ℕ) → k < count → f
     → Contains (job_leaves form (record { first = first; count = count })) (form_leaf form (first + k))
 leaf_there form first count k low within =
     let x : Leaf = form_leaf form (first + k) in
-    let inside : k < length (job_leaves form (record { first = first; count = count })) = omega (arith, length-take count (drop first form.leaves), length-drop first form.leaves) in
-    (k, inside, get_or-take count (drop first form.leaves) k x low ∙ get_or-drop first form.leaves k x ∙ get_or_default form.leaves (first + k) x (record { sequence_one = 0; sequence_two = 0; weight = pos 0 }) (omega arith))
+    let nothing : Leaf = record { sequence_one = 0; sequence_two = 0; weight = pos 0 } in
+    let rest = drop first form.leaves in
+    let inside : k < length (job_leaves form (record { first = first; count = count })) =
+    omega (arith, length-take count rest, length-drop first form.leaves) in
+    let default = get_or_default form.leaves (first + k) x nothing (omega arith) in
+    (k, inside, get_or-take count rest k x low ∙ get_or-drop first form.leaves k x ∙ default)
 
 -- a job's leaves have sequences of the form
 pub job_fits : (form : SequenceForm) (range : LeafRange) → All (HasSequences form) form.leaves

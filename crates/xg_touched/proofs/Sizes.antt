@@ -14,6 +14,7 @@ use Rattle.def_plan.specs.Threads.{sequence_of_leaf}
 use Rattle.def_plan.proofs.Rows.{leaf_sums_add_amounts}
 use Rattle.def_plan.proofs.SizeLaws.{slice_index-at_most}
 use Rattle.xg_touched.specs.Threads.{leaf_numbered, leaf_product, leaves_after, thread_sum}
+use Rattle.xg_touched.proofs.Following.{GoesOn}
 
 mass_take : (k : ℕ) (leaves : List Leaf) → mass_of (take k leaves) ≤ mass_of leaves
 mass_take zero leaves = omega arith
@@ -67,7 +68,7 @@ after_size player leaves against s z last small light =
     omega (arith, leaf_sum_size player (leaves_after leaves z last) against s small, mass_take (last - z) (drop z leaves), mass_drop z leaves)
 
 -- and so has a sum that they complete
-pub part_fits : (player : Player) (leaves : List Leaf) (against : List ℕ) (leaf z last s : ℕ) (part : ℤ)
+part_fits : (player : Player) (leaves : List Leaf) (against : List ℕ) (leaf z last s : ℕ) (part : ℤ)
     → All (λ n. n ≤ most_root) against → mass_of leaves ≤ most_mass
     → part +ℤ leaf_sum player (leaves_after leaves z last) against s ≡ thread_sum player leaves against leaf last
     → unsigned_abs part < 2 ^ 127
@@ -75,8 +76,9 @@ part_fits player leaves against leaf z last s part small light whole =
     let head : ℤ = leaf_product player against (leaf_numbered leaves leaf) in
     let own : ℤ = leaf_sum player (leaves_after leaves leaf last) against (sequence_of_leaf player leaf leaves) in
     let rest : ℤ = leaf_sum player (leaves_after leaves z last) against s in
-    let first : unsigned_abs head ≤ most_mass * most_root =
-    omega (arith, product_size (leaf_numbered leaves leaf).weight against (leaf_sequence (opponent player) (leaf_numbered leaves leaf)) small, mass_at leaves (leaf - 1)) in
+    let at : Leaf = leaf_numbered leaves leaf in
+    let size = product_size at.weight against (leaf_sequence (opponent player) at) small in
+    let first : unsigned_abs head ≤ most_mass * most_root = omega (arith, size, mass_at leaves (leaf - 1)) in
     let mine : unsigned_abs own ≤ most_mass * most_root = after_size player leaves against (sequence_of_leaf player leaf leaves) leaf last small light in
     let theirs : unsigned_abs rest ≤ most_mass * most_root = after_size player leaves against s z last small light in
     sizes head own rest part first mine theirs whole
@@ -85,7 +87,23 @@ part_fits player leaves against leaf z last s part small light whole =
         → unsigned_abs rest ≤ most_mass * most_root → part +ℤ rest ≡ head +ℤ own → unsigned_abs part < 2 ^ 127
     sizes head own rest part first mine theirs whole = omega (arith, ints)
 
--- one leaf more is summed
-pub one_more : (part read product rest before whole : ℤ) → read ≡ product → before ≡ product +ℤ rest
+one_more : (part read product rest before whole : ℤ) → read ≡ product → before ≡ product +ℤ rest
     → part +ℤ before ≡ whole → (part +ℤ read) +ℤ rest ≡ whole
 one_more part read product rest before whole is split sum = omega (arith, ints)
+
+-- with the next leaf of the thread added, the sum has room, and what is left completes it
+pub next_added : (player : Player) (leaves : List Leaf) (against : List ℕ) (leaf z last n : ℕ) (sum read : ℤ)
+    → GoesOn player leaves against (sequence_of_leaf player leaf leaves) z last n
+    → All (λ number. number ≤ most_root) against → mass_of leaves ≤ most_mass
+    → read ≡ leaf_product player against (leaf_numbered leaves n)
+    → sum +ℤ leaf_sum player (leaves_after leaves z last) against (sequence_of_leaf player leaf leaves)
+    ≡ thread_sum player leaves against leaf last
+    → (unsigned_abs (sum +ℤ read) < 2 ^ 127)
+    × ((sum +ℤ read) +ℤ leaf_sum player (leaves_after leaves n last) against (sequence_of_leaf player leaf leaves)
+    ≡ thread_sum player leaves against leaf last)
+next_added player leaves against leaf z last n sum read step small light read_is before =
+    let s : ℕ = sequence_of_leaf player leaf leaves in
+    let whole = one_more sum read (leaf_product player against (leaf_numbered leaves n))
+    (leaf_sum player (leaves_after leaves n last) against s) (leaf_sum player (leaves_after leaves z last) against s)
+    (thread_sum player leaves against leaf last) read_is step.sum before in
+    (part_fits player leaves against leaf n last s (sum +ℤ read) small light whole, whole)

@@ -21,4 +21,5 @@ leaves_after leaves z last = take (last - z) (drop z leaves)
 -- what leaf z and those after it bring to the player's sequence at z
 abbrev pub thread_sum : Player → List Leaf → List ℕ → ℕ → ℕ → ℤ
 thread_sum player leaves against z last =
-    leaf_product player against (leaf_numbered leaves z) +ℤ leaf_sum player (leaves_after leaves z last) against (sequence_of_leaf player z leaves)
+    leaf_product player against (leaf_numbered leaves z)
+    +ℤ leaf_sum player (leaves_after leaves z last) against (sequence_of_leaf player z leaves)

@@ -1,13 +1,16 @@
 //! The rows of a job, and its packet.
 ghost use Rattle.std.specs.Prelude.{◌≡◌, ◌+◌, ◌<◌, ◌≤◌, length, All, IfOk, slice_index};
 ghost use Rattle.def_sums.specs.Limits.{most_root};
-ghost use Rattle.def_plan.specs.Form.{sequence_count};
+ghost use Rattle.def_tree.specs.Opponent.{opponent};
+ghost use Rattle.def_plan.specs.Form.{player_sets, sequence_count};
+ghost use Rattle.def_plan.specs.Payoff.{leaf_sum};
 ghost use Rattle.def_plan.specs.FormRows.{row_count};
 ghost use Rattle.def_history.specs.JobPackets.{packet_of};
 ghost use Rattle.xg_rowcore.specs.Chains.{usual_stripes};
-ghost use Rattle.xg_rowcore.specs.Packets.{zeros_at};
-ghost use Rattle.xg_touched.specs.Filling.{amount_upto, entries_at_rows, entries_upto};
-ghost use Rattle.xg_touched.specs.Touched.{job_rows};
+ghost use Rattle.xg_rowcore.specs.Packets.{entries_at_rows, zeros_at};
+ghost use Rattle.xg_touched.specs.Filling.{amount_upto, entries_upto};
+ghost use Rattle.def_history.specs.JobRows.{job_leaves};
+ghost use Rattle.xg_touched.specs.Touched.{IsRowOf, job_rows, sequence_of_row};
 
 use crate::building::{first_leaves_of, rows_of};
 use crate::summing::thread_sum;
@@ -119,7 +122,7 @@ impl TouchedRows {
             if rows[i] >= count {
                 return i;
             }
-            into.put(i, self.amount_of_one(i, form, one, two));
+            into.put(i, self.amount_at(i, form, Player::One, two));
         }
         rows.len()
     }
@@ -153,47 +156,26 @@ impl TouchedRows {
             } }
     {
         for i in ones..self.len() {
-            into.put(i, self.amount_of_two(i, form, one, two));
+            into.put(i, self.amount_at(i, form, Player::Two, one));
         }
     }
 
-    // What the job's leaves bring to a row of player one.
-    fn amount_of_one(&self, i: usize, form: &SeqForm, one: &[u64], two: &[u64]) -> i128
+    // What the job's leaves bring to a row of a player. Each caller is for one player.
+    #[inline(always)]
+    fn amount_at(&self, i: usize, form: &SeqForm, player: Player, against: &[u64]) -> i128
         requires there { i < length self.now.rows }
-        requires row { slice_index self.now.rows i < sequence_count form.now.sets_one }
+        requires row { IsRowOf player form.now (slice_index self.now.rows i) }
         requires leaves { self.now.range.first + self.now.range.count ≤ length form.now.leaves }
         requires rows { self.now ≡ job_rows form.now self.now.range }
-        requires count_one { length one.now ≡ sequence_count form.now.sets_one }
-        requires count_two { length two.now ≡ sequence_count form.now.sets_two }
-        requires small_one { All (λ n. n ≤ most_root) one.now }
-        requires small_two { All (λ n. n ≤ most_root) two.now }
-        ensures { result ≡ amount_upto form.now one.now two.now self.now.range.first self.now.range.count
-            (slice_index self.now.rows i) }
+        requires count { length against.now ≡ sequence_count (player_sets form.now (opponent player)) }
+        requires small { All (λ n. n ≤ most_root) against.now }
+        ensures { let sequence = sequence_of_row player form.now (slice_index self.now.rows i) in
+            result ≡ leaf_sum player (job_leaves form.now self.now.range) against.now sequence }
     {
         // the limit of a form's leaves
         form.facts();
         let leaf = self.first_leaves[i];
         let last = self.leaves_before + self.count;
-        thread_sum(form, Player::One, leaf, last, two)
-    }
-
-    // What they bring to a row of player two.
-    fn amount_of_two(&self, i: usize, form: &SeqForm, one: &[u64], two: &[u64]) -> i128
-        requires there { i < length self.now.rows }
-        requires row { sequence_count form.now.sets_one ≤ slice_index self.now.rows i }
-        requires leaves { self.now.range.first + self.now.range.count ≤ length form.now.leaves }
-        requires rows { self.now ≡ job_rows form.now self.now.range }
-        requires count_one { length one.now ≡ sequence_count form.now.sets_one }
-        requires count_two { length two.now ≡ sequence_count form.now.sets_two }
-        requires small_one { All (λ n. n ≤ most_root) one.now }
-        requires small_two { All (λ n. n ≤ most_root) two.now }
-        ensures { result ≡ amount_upto form.now one.now two.now self.now.range.first self.now.range.count
-            (slice_index self.now.rows i) }
-    {
-        // the limit of a form's leaves
-        form.facts();
-        let leaf = self.first_leaves[i];
-        let last = self.leaves_before + self.count;
-        thread_sum(form, Player::Two, leaf, last, one)
+        thread_sum(form, player, leaf, last, against)
     }
 }

@@ -3,7 +3,7 @@ use Rattle.std.proofs.Common.{◌≡◌, ◌≢◌, ℕ, zero, suc, ◌+◌, ◌
 use Rattle.std.proofs.lemmas.Bool.{cases_eq}
 use Rattle.def_history.specs.Packets.{RowAmount, AreRising, IsPacketOf}
 use Rattle.xg_rowcore.specs.Packets.{entry_in}
-use Rattle.xg_rowcore.proofs.Rising.{same_element}
+use Rattle.std.proofs.lemmas.List.{get_or_default}
 use Rattle.def_words.specs.Amounts.{IsNext, LastIsComplete}
 use Rattle.xg_words.specs.Holdings.{AreLeft, reached_after}
 
@@ -21,11 +21,14 @@ rising_at (e ∷ es) (suc i) (suc k) (first, rising) before inside = rising_at e
 pub left_start : (amount : ℕ → ℕ → ℤ) (rows job : ℕ) (entries : List RowAmount) → IsPacketOf amount rows job entries → AreLeft amount rows job entries 0 0
 left_start amount rows job entries packet = record {
   rows_after = λ k low inside. omega arith;
-  nothing_else = λ row above below none. packet.nothing_else row below (λ k d inside e. none k (omega arith) inside (ap (λ (x : RowAmount). x.row) (same_element entries k nothing d inside) ∙ e));
+  nothing_else = λ row above below none.
+      packet.nothing_else row below (λ k d inside e.
+      none k (omega arith) inside (ap (λ (x : RowAmount). x.row) (get_or_default entries k nothing d inside) ∙ e));
 }
 
 -- an entry with an amount is the next that its job needs
-pub left_is_next : (jobs : ℕ) (amount : ℕ → ℕ → ℤ) (rows job : ℕ) (entries : List RowAmount) (i reached : ℕ) (numbers earlier : List ℕ) → IsPacketOf amount rows job entries
+pub left_is_next : (jobs : ℕ) (amount : ℕ → ℕ → ℤ) (rows job : ℕ) (entries : List RowAmount) (i reached : ℕ) (numbers earlier : List ℕ)
+    → IsPacketOf amount rows job entries
     → AreLeft amount rows job entries i reached → i < length entries → job < jobs → numbers ≡ job ∷ earlier
     → IsNext jobs amount (entry_in entries i).row (entry_in entries i).amount reached numbers
 left_is_next jobs amount rows job entries i reached numbers earlier packet left inside is_job last = record {
@@ -36,7 +39,8 @@ left_is_next jobs amount rows job entries i reached numbers earlier packet left 
   amount_is = packet.have_amounts i nothing inside;
   after = left.rows_after i (omega arith) inside;
   between = λ r above before.
-      left.nothing_else r above (let below : (entry_in entries i).row < rows = packet.are_rows i nothing inside in omega (arith, before, below)) (λ k from inside' e.
+      left.nothing_else r above (let below : (entry_in entries i).row < rows = packet.are_rows i nothing inside in omega (arith, before, below))
+      (λ k from inside' e.
       elim (cases_eq k i) [
         | inl same ↦ (let is = ap (λ k. (entry_in entries k).row) same in absurd (omega (arith, is, e, before)))
         | inr apart ↦ (let rise = rising_at entries i k packet.rising (omega (arith, from, apart)) inside' in absurd (omega (arith, rise, e, before)))
@@ -44,7 +48,8 @@ left_is_next jobs amount rows job entries i reached numbers earlier packet left 
 }
 
 -- with it added, those behind it are left
-pub left_after : (amount : ℕ → ℕ → ℤ) (rows job : ℕ) (entries : List RowAmount) (i reached : ℕ) → IsPacketOf amount rows job entries → AreLeft amount rows job entries i reached → i < length entries
+pub left_after : (amount : ℕ → ℕ → ℤ) (rows job : ℕ) (entries : List RowAmount) (i reached : ℕ) → IsPacketOf amount rows job entries
+    → AreLeft amount rows job entries i reached → i < length entries
     → AreLeft amount rows job entries (i + 1) ((entry_in entries i).row + 1)
 left_after amount rows job entries i reached packet left inside = record {
   rows_after = λ k from inside'. let rise = rising_at entries i k packet.rising (omega (arith, from)) inside' in omega (arith, rise);
@@ -57,7 +62,8 @@ left_after amount rows job entries i reached packet left inside = record {
 }
 
 -- and where its amount is 0 they are without
-pub left_skipped : (amount : ℕ → ℕ → ℤ) (rows job : ℕ) (entries : List RowAmount) (i reached : ℕ) → IsPacketOf amount rows job entries → AreLeft amount rows job entries i reached → i < length entries
+pub left_skipped : (amount : ℕ → ℕ → ℤ) (rows job : ℕ) (entries : List RowAmount) (i reached : ℕ) → IsPacketOf amount rows job entries
+    → AreLeft amount rows job entries i reached → i < length entries
     → (entry_in entries i).amount ≡ pos 0 → AreLeft amount rows job entries (i + 1) reached
 left_skipped amount rows job entries i reached packet left inside none_here = record {
   rows_after = λ k from inside'. left.rows_after k (omega (arith, from)) inside';
@@ -73,7 +79,8 @@ left_skipped amount rows job entries i reached packet left inside none_here = re
 }
 
 -- in the end the job is complete
-pub left_end : (jobs : ℕ) (amount : ℕ → ℕ → ℤ) (rows job : ℕ) (entries : List RowAmount) (reached : ℕ) (numbers earlier : List ℕ) → AreLeft amount rows job entries (length entries) reached → numbers ≡ job ∷ earlier
+pub left_end : (jobs : ℕ) (amount : ℕ → ℕ → ℤ) (rows job : ℕ) (entries : List RowAmount) (reached : ℕ) (numbers earlier : List ℕ)
+    → AreLeft amount rows job entries (length entries) reached → numbers ≡ job ∷ earlier
     → LastIsComplete jobs rows amount reached numbers
 left_end jobs amount rows job entries reached numbers earlier left last n ns is is_job row above below =
     let same : n ≡ job = ap head (sym is ∙ last) in
@@ -84,7 +91,8 @@ left_end jobs amount rows job entries reached numbers earlier left last n ns is 
     head (x ∷ xs) = x
 
 -- either way
-pub left_next : (amount : ℕ → ℕ → ℤ) (rows job : ℕ) (entries : List RowAmount) (i reached : ℕ) → IsPacketOf amount rows job entries → AreLeft amount rows job entries i reached → i < length entries
+pub left_next : (amount : ℕ → ℕ → ℤ) (rows job : ℕ) (entries : List RowAmount) (i reached : ℕ) → IsPacketOf amount rows job entries
+    → AreLeft amount rows job entries i reached → i < length entries
     → AreLeft amount rows job entries (i + 1) (reached_after (entry_in entries i).row (entry_in entries i).amount reached)
 left_next amount rows job entries i reached packet left inside = by_amount (entry_in entries i).amount refl
   where

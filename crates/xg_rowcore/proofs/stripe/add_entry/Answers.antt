@@ -10,4 +10,5 @@ use Rattle.xg_rowcore.proofs.stripe.add_entry.Goals as goal
 pub returns : goal.returns
 returns c =
     rw (ap (λ (l : AmountList). l.list) c.add.ensures, c.place_of.ensures, to_z-of_z w128 c.args.amount c.ranges.amount)
-    (grown_by_own (stripe_of c.args.stripes c.args.row) c.args.stripes c.args.row c.args.amount c.args.totals.now.list (mod-lt c.args.row c.requires.stripes) refl c.requires.there)
+    (grown_by_own (stripe_of c.args.stripes c.args.row) c.args.stripes c.args.row c.args.amount c.args.totals.now.list
+    (mod-lt c.args.row c.requires.stripes) refl c.requires.there)

@@ -8,16 +8,19 @@ returns-in_err-next c =
     let z = c.args.z in
     let leaves = c.args.form.now.leaves in
     c.from_residual.ensures
-    ∙ sym (first_none c.args.player (sequence_of_leaf c.args.player z leaves) (z + 1) (c.args.last - z) (drop z leaves) (sym c.next_leaf.ensures ∙ c.in_err-next.was))
+    ∙ sym (first_none c.args.player (sequence_of_leaf c.args.player z leaves) (z + 1) (c.args.last - z) (drop z leaves)
+    (sym c.next_leaf.ensures ∙ c.in_err-next.was))
 
 pub returns-then-next-last : goal.returns-then-next-last
 returns-then-next-last c =
     let z = c.args.z in
     let leaves = c.args.form.now.leaves in
-    sym (first_kept c.args.player (sequence_of_leaf c.args.player z leaves) (z + 1) (c.args.last - z) (drop z leaves) c.in_ok-next.next (sym c.next_leaf.ensures ∙ c.in_ok-next.was) (omega arith))
+    sym (first_kept c.args.player (sequence_of_leaf c.args.player z leaves) (z + 1) (c.args.last - z) (drop z leaves) c.in_ok-next.next
+    (sym c.next_leaf.ensures ∙ c.in_ok-next.was) (omega arith))
 
 pub returns-else-next-last : goal.returns-else-next-last
 returns-else-next-last c =
     let z = c.args.z in
     let leaves = c.args.form.now.leaves in
-    sym (first_past c.args.player (sequence_of_leaf c.args.player z leaves) (z + 1) (c.args.last - z) (drop z leaves) c.in_ok-next.next (sym c.next_leaf.ensures ∙ c.in_ok-next.was) (omega arith))
+    sym (first_past c.args.player (sequence_of_leaf c.args.player z leaves) (z + 1) (c.args.last - z) (drop z leaves) c.in_ok-next.next
+    (sym c.next_leaf.ensures ∙ c.in_ok-next.was) (omega arith))

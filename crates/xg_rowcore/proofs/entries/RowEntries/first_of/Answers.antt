@@ -1,18 +1,15 @@
-use Rattle.std.proofs.Common.{◌≡◌, ◌<◌, length, ap, sym, subst, ◌∙◌, arith}
+use Rattle.std.proofs.Common.{◌≡◌, ◌<◌, length, sym, subst, ◌∙◌, arith}
 use Rattle.std.specs.Prelude.{slice_index}
 use Rattle.std.proofs.lemmas.Grind.{get_or_default_zero}
-use Rattle.xg_rowcore.specs.Chains.{IsNextOf, rows_of_entries}
-use Rattle.xg_rowcore.specs.Packets.{Listed}
-use Rattle.xg_rowcore.proofs.Chaining.{rows_of-entries_from}
+use Rattle.xg_rowcore.specs.Chains.{IsNextOf}
+use Rattle.xg_rowcore.proofs.Viewed.{rows_seen}
 use Rattle.xg_rowcore.proofs.entries.RowEntries.first_of.Goals as goal
 
 pub returns-then-self-stripes : goal.returns-then-self-stripes
 returns-then-self-stripes c =
-    let rows = c.self.inside.rows.items in
     let first = c.self.inside.chains.first.items in
-    let kept = c.self.invariant.5 in
-    let rows_are : rows ≡ rows_of_entries c.args.self.now.list =
-    sym (rows_of-entries_from rows c.self.inside.amounts.list c.self.invariant.0) ∙ ap (λ (l : Listed). rows_of_entries l.list) c.self.view_is in
+    let kept = c.self.invariant.4 in
+    let rows_are = rows_seen _ _ c.self.invariant.0 c.self.view_is in
     let is : c.self.inside.chains.stripes ≡ c.args.stripes = c.if-self-stripes.true in
     let linked = kept.linked (omega (arith, is, c.requires)) in
     let found = linked.firsts c.args.stripe (omega (arith, is, c.requires)) in
@@ -23,8 +20,6 @@ returns-then-self-stripes c =
 
 pub returns-else-self-stripes : goal.returns-else-self-stripes
 returns-else-self-stripes c =
-    let rows = c.self.inside.rows.items in
-    let rows_are : rows ≡ rows_of_entries c.args.self.now.list =
-    sym (rows_of-entries_from rows c.self.inside.amounts.list c.self.invariant.0) ∙ ap (λ (l : Listed). rows_of_entries l.list) c.self.view_is in
+    let rows_are = rows_seen _ _ c.self.invariant.0 c.self.view_is in
     let items = c.deref.ensures.value in
     subst (λ rs. IsNextOf c.args.stripes c.args.stripe rs 0 c.seek.result) (items ∙ rows_are) c.seek.ensures

@@ -22,6 +22,8 @@ pub invariant_of-self : goal.invariant_of-self
 invariant_of-self g c =
     let absent = subst (λ (h : StripeHistory). Contains h.order c.args.packet.now.job → ⊥) (sym c.self.view_is) c.requires.new in
     let legal = legal_push _ _ _ c.self.invariant.1 c.requires.job absent in
-    let totals = totals_with_job g.N.RowName.rows g.N.RowName.amount _ _ _ _ _ c.args.packet.now.job c.args.packet.now.entries.list c.self.invariant.0 c.self.invariant.2 c.requires.packet c.add_rows.ensures in
+    let totals = totals_with_job g.N.RowName.rows g.N.RowName.amount _ _ _ _ _ c.args.packet.now.job c.args.packet.now.entries.list
+    c.self.invariant.0 c.self.invariant.2 c.requires.packet c.add_rows.ensures in
     let order = c.push_reserved.ensures.items in
-    (c.self.invariant.0, rw order legal, rw order totals, omega (arith, c.push_reserved.ensures.capacity, c.self.invariant.3), c.self.invariant.4, c.self.invariant.5)
+    let room = c.push_reserved.ensures.capacity in
+    (c.self.invariant.0, rw order legal, rw order totals, omega (arith, room, c.self.invariant.3), c.self.invariant.4, c.self.invariant.5)

@@ -12,7 +12,8 @@ use Rattle.xg_rowcore.proofs.stripe.Stripe.total.Goals as goal
 pub returns-clause-small : goal.returns-clause-small
 returns-clause-small g c =
     let totals = c.self.invariant.2 in
-    let there : c.args.place < place_count c.self.inside.stripes g.N.RowName.rows c.self.inside.index = subst (λ (h : StripeHistory). c.args.place < place_count h.stripes g.N.RowName.rows h.index) (sym c.self.view_is) c.requires in
+    let there : c.args.place < place_count c.self.inside.stripes g.N.RowName.rows c.self.inside.index =
+    subst (λ (h : StripeHistory). c.args.place < place_count h.stripes g.N.RowName.rows h.index) (sym c.self.view_is) c.requires in
     let under : c.args.place < length c.self.inside.totals.list = omega (arith, totals.length_is, there) in
     let row = row_there c.self.inside.stripes g.N.RowName.rows c.self.inside.index c.args.place c.self.invariant.0 there in
     let is : c.get.result ≡ replay g.N.RowName.amount c.self.inside.order.items (c.args.place * c.self.inside.stripes + c.self.inside.index) =

@@ -1,7 +1,10 @@
 use Rattle.std.proofs.Common.{◌≡◌, ℕ, ◌<◌, List, length, get_or, ℤ, FitsSigned, to_z, of_z, ap, sym, refl, rules, ◌∙◌, arith}
 use mir.Syntax.{w128}
 use Rattle.std.proofs.lemmas.Int.{to_z-of_z}
-use Rattle.xg_rowcore.specs.Packets.{Listed, with_amount}
+use Rattle.xg_rowcore.specs.Packets.{Listed}
+use Rattle.def_plan.specs.Form.{sequence_count}
+use Rattle.def_plan.proofs.Rows.{in_row_of_one}
+use Rattle.def_history.specs.JobRows.{job_leaves}
 use Rattle.xg_touched.specs.Filling.{amount_upto, entries_upto}
 use Rattle.xg_touched.specs.Touched.{JobRows}
 use Rattle.xg_touched.proofs.Filling.{length-upto, upto_more, upto_none}
@@ -26,15 +29,17 @@ loop-i-preserved c =
     let f : ℕ → ℤ = amount_upto c.args.form.now c.args.one.now c.args.two.now c.args.self.now.range.first c.args.self.now.range.count in
     let long = ap length c.rows-rows.ensures ∙ ap (λ (x : JobRows). length x.rows) c.self.view_is in
     let low : i < length rows = omega (arith, long, c.loop-i-test.true) in
-    let fits : FitsSigned w128 c.amount_of_one.result = search rules in
-    let amount : ℤ = to_z w128 (of_z w128 c.amount_of_one.result) in
-    let amount_is : amount ≡ f (get_or rows i 0) = to_z-of_z w128 c.amount_of_one.result fits ∙ c.amount_of_one.ensures in
+    let fits : FitsSigned w128 c.amount_at.result = search rules in
+    let amount : ℤ = to_z w128 (of_z w128 c.amount_at.result) in
+    let rows_are = c.rows-rows.ensures ∙ ap (λ (x : JobRows). x.rows) c.self.view_is in
+    let leaves = job_leaves c.args.form.now c.args.self.now.range in
+    let below : get_or rows i 0 < sequence_count c.args.form.now.sets_one =
+    omega (arith, ap (λ rs. get_or rs i 0) rows_are, c.if-rows-i.false, c.sequence_count-count.ensures.count) in
+    let own = in_row_of_one c.args.form.now c.args.one.now c.args.two.now leaves (get_or rows i 0) below in
+    let amount_is : amount ≡ f (get_or rows i 0) = to_z-of_z w128 c.amount_at.result fits ∙ c.amount_at.ensures ∙ sym own in
     record {
       job = c.put.ensures.job ∙ c.loop-i.invariant.job;
-      list =
-          ap (λ (x : Listed). x.list) c.put.ensures.entries
-          ∙ ap (λ es. with_amount es i amount) c.loop-i.invariant.list
-          ∙ upto_more f i amount rows low amount_is;
+      list = upto_more f i amount rows _ _ low amount_is c.loop-i.invariant.list c.put.ensures.entries;
       room = ap (λ (x : Listed). x.room) c.put.ensures.entries ∙ c.loop-i.invariant.room;
       chained = ap (λ (x : Listed). x.chained) c.put.ensures.entries ∙ c.loop-i.invariant.chained;
     }
