@@ -2,6 +2,7 @@ pub mod FaultOfFile
 pub mod Chance
 pub mod Leaf
 pub mod OnPath
+pub mod Outer
 pub mod Range
 pub mod Walked
 pub mod Weighed

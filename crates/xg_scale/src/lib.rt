@@ -4,6 +4,7 @@
 mod chance;
 mod leaf;
 mod nodes;
+mod outer;
 mod parts;
 mod path;
 mod range;

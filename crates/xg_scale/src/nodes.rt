@@ -10,12 +10,13 @@ ghost use Rattle.xg_scale.specs.OnPath.{HasNodeAround, chance_set_of, entered_no
 ghost use Rattle.xg_scale.specs.Walked.{HasEntered, HasLeft, IsBefore, IsExpectedOf, MayCome, MayComeNext, all_fit, next_fault, numbers_below, paid_to, reach_below};
 
 use crate::leaf::Expected;
+use crate::outer::OuterPath;
 use crate::parts::known;
 use crate::path::{NodeOnPath, PathNumbers, after_child, empty_path};
 use std::alloc::{AllocError, Global};
 use xg_frac::{Frac, OverLimit, add, mul};
 use xg_game::{FileFault, Game, Kind, Player, Refused};
-use xg_tree::{Ancestors, Node, Visitor};
+use xg_tree::{Node, Visitor};
 
 /// What each leaf is expected to pay, what it pays both players together, the unit, and the range of the payoffs.
 pub(crate) fn expect(alloc: Global, game: &Game) -> Result<Expected, Refused>
@@ -48,7 +49,7 @@ impl<'a> PathVisitor<'a> {
         let walk = PathWalk {
             game,
             innermost: empty_path(),
-            outer: Ancestors::new(alloc),
+            outer: OuterPath::new(alloc),
             expected: Expected {
                 sum: None,
                 unit: 1,
@@ -94,7 +95,7 @@ impl<'a> Visitor for PathVisitor<'a> {
 struct PathWalk<'a> {
     game: &'a Game,
     innermost: NodeOnPath,
-    outer: Ancestors<NodeOnPath>,
+    outer: OuterPath,
     expected: Expected,
 }
 
