@@ -1,6 +1,7 @@
 -- Texts that are written in pieces.
 use Rattle.std.proofs.Common.{◌≡◌, ℕ, ◌+◌, ◌<◌, ◌≤◌, List, [], ◌∷◌, ◌++◌, length, drop, get_or, Option, Result, refl, sym, ap, ◌∙◌, subst, append_assoc}
 use Rattle.std.specs.Prelude.{codes}
+use Rattle.std.specs.Fmt.{decimal, digits}
 use Rattle.std.specs.Io.KnownBytes.{append_known}
 use Rattle.std.proofs.lemmas.List.{append-nil, drop_all, drop_more}
 use Rattle.def_outside.specs.Sinks.{AppendsPrefix, Writes}
@@ -8,9 +9,11 @@ use Rattle.def_outside.proofs.Fronts.{append_known-nil}
 use Rattle.xg_io.proofs.KnownBytesInPieces.{Progress, whole}
 use Rattle.xg_io.proofs.Pieces.{prefix_first, then_rest, goes_on, fails}
 use Rattle.def_file_tokens.specs.declared.Token.{Token}
+use Rattle.def_file_tokens.specs.declared.Token.TheVariants.{Number, Text}
+use Rattle.def_file_tokens.specs.Texts.{escaped}
 use Rattle.def_file_tokens.specs.Spelling.{Piece, bytes_of}
 use Rattle.def_file.specs.Content.{GameFile}
-use Rattle.def_canon.specs.Canon.{behind, canon, each, game_pieces, text_of_pieces}
+use Rattle.def_canon.specs.Canon.{behind, canon, each, game_pieces, quoted, text_of_pieces, whole_piece}
 
 -- Tokens behind their white space.
 
@@ -45,6 +48,44 @@ pub then_token : {T E : Type 0} (before middle now : Option (List ℕ)) (space b
     → Writes before now (text_of_pieces (behind space kind bytes ∷ [])) r
 then_token before middle now space bytes kind r e w =
     subst (λ (t : List ℕ). Writes before now t r) (one_token space bytes kind) (then_rest before middle now space bytes r e w)
+
+-- a text between quotation marks
+pub quoted_token : {T E : Type 0} (before now : Option (List ℕ)) (space bytes : List ℕ) (r : Result T E)
+    → Writes before now (space ++ 34 ∷ (escaped bytes ++ 34 ∷ [])) r
+    → Writes before now (text_of_pieces (behind space Text (quoted bytes) ∷ [])) r
+unfolding quoted
+quoted_token before now space bytes r w =
+    subst (λ (t : List ℕ). Writes before now t r) (one_token space (34 ∷ (escaped bytes ++ 34 ∷ [])) Text) w
+
+-- a text without bytes
+pub empty_token : {T E : Type 0} (before now : Option (List ℕ)) (bytes : List ℕ) (r : Result T E)
+    → bytes ≡ [] → Writes before now (32 ∷ 34 ∷ 34 ∷ []) r
+    → Writes before now (text_of_pieces (behind (32 ∷ []) Text (quoted bytes) ∷ [])) r
+unfolding escaped
+empty_token before now bytes r e w =
+    subst (λ (t : List ℕ). Writes before now (text_of_pieces (behind (32 ∷ []) Text (quoted t) ∷ [])) r) (sym e)
+    (quoted_token before now (32 ∷ []) [] r w)
+
+-- a number of one digit
+pub zero_digits : 48 ∷ [] ≡ decimal 0
+unfolding digits
+zero_digits = refl
+
+pub one_digits : 49 ∷ [] ≡ decimal 1
+unfolding digits
+one_digits = refl
+
+pub two_digits : 50 ∷ [] ≡ decimal 2
+unfolding digits
+two_digits = refl
+
+-- a number of these digits
+pub number_token : {T E : Type 0} (before now : Option (List ℕ)) (n m : ℕ) (text : List ℕ) (r : Result T E)
+    → n ≡ m → text ≡ decimal m → Writes before now (32 ∷ text) r
+    → Writes before now (text_of_pieces (whole_piece n ∷ [])) r
+number_token before now n m text r e same w =
+    subst (λ (t : List ℕ). Writes before now t r)
+    (one_token (32 ∷ []) text Number ∙ ap (λ (t : List ℕ). text_of_pieces (behind (32 ∷ []) Number t ∷ [])) (same ∙ ap decimal (sym e))) w
 
 -- no token
 pub nothing : (known : Option (List ℕ)) → known ≡ append_known known (text_of_pieces [])

@@ -46,8 +46,21 @@ pub(crate) fn put_comma<O: Sink>(out: &mut O) -> Result<(), WriteFault>
     write_all(out, b",")
 }
 
-/// A whole number.
+/// A whole number. Most are the number of a player or of the null outcome, which take one write.
 pub(crate) fn put_number<O: Sink>(n: u64, out: &mut O) -> Result<(), WriteFault>
+    ensures text { Writes (O.written out.old) (O.written out.new) (text_of_pieces (whole_piece n ∷ [])) result }
+    ensures cause { HasCause (O.faults out.old) (O.faults out.new) result }
+{
+    match n {
+        0 => write_all(out, b" 0"),
+        1 => write_all(out, b" 1"),
+        2 => write_all(out, b" 2"),
+        _ => put_digits(n, out),
+    }
+}
+
+/// A whole number, digit by digit.
+fn put_digits<O: Sink>(n: u64, out: &mut O) -> Result<(), WriteFault>
     ensures text { Writes (O.written out.old) (O.written out.new) (text_of_pieces (whole_piece n ∷ [])) result }
     ensures cause { HasCause (O.faults out.old) (O.faults out.new) result }
 {
@@ -64,13 +77,15 @@ pub(crate) fn put_fraction<O: Sink>(f: Frac, out: &mut O) -> Result<(), WriteFau
     put_frac(f, out)
 }
 
-/// A text behind one space.
+/// A text behind one space. Most nodes have no name.
 pub(crate) fn put_text<O: Sink>(bytes: &[u8], out: &mut O) -> Result<(), WriteFault>
     ensures text { Writes (O.written out.old) (O.written out.new) (text_of_pieces (text_piece bytes.now ∷ [])) result }
     ensures cause { HasCause (O.faults out.old) (O.faults out.new) result }
 {
-    write_all(out, b" ")?;
-    put_quoted(bytes, out)
+    if bytes.is_empty() {
+        return write_all(out, b" \"\"");
+    }
+    put_quoted(b" \"", bytes, out)
 }
 
 /// A text on a line of its own.
@@ -78,8 +93,7 @@ pub(crate) fn put_text_line<O: Sink>(bytes: &[u8], out: &mut O) -> Result<(), Wr
     ensures text { Writes (O.written out.old) (O.written out.new) (text_of_pieces (on_new_line Text (quoted bytes.now) ∷ [])) result }
     ensures cause { HasCause (O.faults out.old) (O.faults out.new) result }
 {
-    write_all(out, b"\n")?;
-    put_quoted(bytes, out)
+    put_quoted(b"\n\"", bytes, out)
 }
 
 /// A name, if there is one.
@@ -95,13 +109,13 @@ pub(crate) fn put_name<O: Sink>(name: Option<&[u8]>, out: &mut O) -> Result<(), 
     }
 }
 
-/// Bytes between quotation marks.
-#[tactic(auto, using(xg_io::proofs::Pieces::prefix_first, xg_io::proofs::Pieces::then_rest), unfolding(def_canon::specs::Canon::quoted))]
-fn put_quoted<O: Sink>(bytes: &[u8], out: &mut O) -> Result<(), WriteFault>
-    ensures text { Writes (O.written out.old) (O.written out.new) (quoted bytes.now) result }
+/// Bytes behind an opening quotation mark and what stands before it, and a closing one.
+#[tactic(auto, using(xg_io::proofs::Pieces::prefix_first, xg_io::proofs::Pieces::then_rest))]
+fn put_quoted<O: Sink>(opening: &[u8], bytes: &[u8], out: &mut O) -> Result<(), WriteFault>
+    ensures text { Writes (O.written out.old) (O.written out.new) (opening.now ++ (escaped bytes.now ++ 34 ∷ [])) result }
     ensures cause { HasCause (O.faults out.old) (O.faults out.new) result }
 {
-    write_all(out, b"\"")?;
+    write_all(out, opening)?;
     put_escaped(bytes, out)?;
     write_all(out, b"\"")
 }
