@@ -1,3 +1,4 @@
+pub mod Again
 pub mod Described
 pub mod Plain
 pub mod Taken

@@ -1,21 +1,21 @@
 //! The entries of one-card poker, as a maker takes them.
 ghost use Rattle.std.specs.Prelude.{◌≡◌, ◌≤◌, ◌<◌, [], ◌∷◌, OnOk, Ok, IsTrue};
 ghost use Rattle.def_fraction.specs.Fraction.{most};
-ghost use Rattle.def_file.specs.Content.{chance_record, player_record, leaf_record, no_outcome_mention};
+ghost use Rattle.def_file.specs.Content.{chance_record, player_record, leaf_record, no_outcome_mention, no_set_mention};
 ghost use Rattle.def_file.specs.Faults.{has_set};
 ghost use Rattle.def_canon.specs.Poker as def;
-ghost use Rattle.xg_record.specs.Record.{record_of};
+ghost use Rattle.xg_record.specs.Entry.{entry_seen};
+ghost use Rattle.xg_gen.specs.Again.{AreOutcomes, AreOwnSets};
 ghost use Rattle.xg_gen.specs.Described.{mention_of_outcome, mention_of_set};
 ghost use Rattle.xg_gen.specs.Taken.{GainsEntries, Takes};
 
-use crate::mentions::{
-    DescribedOutcome, DescribedSet, after_bet, after_check, answer, opening, wins_one, wins_two,
-};
+use crate::again::{Outcomes, OwnSets};
+use crate::mentions::{DescribedOutcome, DescribedSet, after_bet, after_check};
 use crate::texts::plain;
 use std::alloc::{AllocError, Global};
 use xg_game::{GameMaker, Refused};
 use xg_lex::Text;
-use xg_record::{EntryKind, Record};
+use xg_record::{EntryActions, EntryKind, EntryView};
 use xg_tree::Player;
 
 /// The play where player one has card `i` and player two has card `j`.
@@ -25,17 +25,21 @@ pub(crate) fn put_hand(
     n: u32,
     i: u32,
     j: u32,
+    own: &OwnSets,
+    outcomes: &Outcomes,
 ) -> Result<(), AllocError>
     requires one { 1 ≤ i }
     requires two { 1 ≤ j }
+    requires own { AreOwnSets n i own.now }
+    requires outcomes { AreOutcomes outcomes.now }
     requires takes { Takes maker.old (def.hand n i j) }
     ensures { OnOk result (GainsEntries maker.old maker.new (def.hand n i j)) }
 {
-    put_opening(maker, alloc, i)?;
+    put_opening(maker, alloc, n, i, own)?;
     put_after_check(maker, alloc, j)?;
-    put_showdown(maker, alloc, i, j)?;
-    put_answer(maker, alloc, n, i, j)?;
-    put_after_bet(maker, alloc, n, i, j)?;
+    put_showdown(maker, alloc, i, j, outcomes)?;
+    put_answer(maker, alloc, n, i, j, own, outcomes)?;
+    put_after_bet(maker, alloc, n, i, j, outcomes)?;
     Ok(())
 }
 
@@ -46,13 +50,19 @@ fn higher(i: u32, j: u32) -> Player
     if j < i { Player::One } else { Player::Two }
 }
 
-fn put_opening(maker: &mut GameMaker, alloc: Global, i: u32) -> Result<(), AllocError>
+fn put_opening(
+    maker: &mut GameMaker,
+    alloc: Global,
+    n: u32,
+    i: u32,
+    own: &OwnSets,
+) -> Result<(), AllocError>
     requires card { 1 ≤ i }
+    requires own { AreOwnSets n i own.now }
     requires takes { Takes maker.old (player_record 1 (def.opening_set i) ∷ []) }
     ensures { OnOk result (GainsEntries maker.old maker.new (player_record 1 (def.opening_set i) ∷ [])) }
 {
-    let set = opening(alloc, i)?;
-    put_move(maker, alloc, 1, set)
+    put_move(maker, alloc, 1, &own.opening)
 }
 
 fn put_after_check(maker: &mut GameMaker, alloc: Global, j: u32) -> Result<(), AllocError>
@@ -61,33 +71,50 @@ fn put_after_check(maker: &mut GameMaker, alloc: Global, j: u32) -> Result<(), A
     ensures { OnOk result (GainsEntries maker.old maker.new (player_record 2 (def.after_check j) ∷ [])) }
 {
     let set = after_check(alloc, j)?;
-    put_move(maker, alloc, 2, set)
+    put_move(maker, alloc, 2, &set)
 }
 
 /// Two checks.
-fn put_showdown(maker: &mut GameMaker, alloc: Global, i: u32, j: u32) -> Result<(), AllocError>
-    requires { Takes maker.old (leaf_record (def.wins_one (def.higher i j)) ∷ []) }
+fn put_showdown(
+    maker: &mut GameMaker,
+    alloc: Global,
+    i: u32,
+    j: u32,
+    outcomes: &Outcomes,
+) -> Result<(), AllocError>
+    requires outcomes { AreOutcomes outcomes.now }
+    requires takes { Takes maker.old (leaf_record (def.wins_one (def.higher i j)) ∷ []) }
     ensures { OnOk result (GainsEntries maker.old maker.new (leaf_record (def.wins_one (def.higher i j)) ∷ [])) }
 {
-    put_win_of_one(maker, alloc, higher(i, j))
+    put_win_of_one(maker, alloc, higher(i, j), outcomes)
 }
 
 /// The play is over, and a player wins 1.
-fn put_win_of_one(maker: &mut GameMaker, alloc: Global, winner: Player) -> Result<(), AllocError>
-    requires { Takes maker.old (leaf_record (def.wins_one winner) ∷ []) }
+fn put_win_of_one(
+    maker: &mut GameMaker,
+    alloc: Global,
+    winner: Player,
+    outcomes: &Outcomes,
+) -> Result<(), AllocError>
+    requires outcomes { AreOutcomes outcomes.now }
+    requires takes { Takes maker.old (leaf_record (def.wins_one winner) ∷ []) }
     ensures { OnOk result (GainsEntries maker.old maker.new (leaf_record (def.wins_one winner) ∷ [])) }
 {
-    let outcome = wins_one(alloc, winner)?;
-    put_end(maker, alloc, outcome)
+    put_end(maker, alloc, outcomes.ones.of(winner))
 }
 
 /// The play is over, and a player wins 2.
-fn put_win_of_two(maker: &mut GameMaker, alloc: Global, winner: Player) -> Result<(), AllocError>
-    requires { Takes maker.old (leaf_record (def.wins_two winner) ∷ []) }
+fn put_win_of_two(
+    maker: &mut GameMaker,
+    alloc: Global,
+    winner: Player,
+    outcomes: &Outcomes,
+) -> Result<(), AllocError>
+    requires outcomes { AreOutcomes outcomes.now }
+    requires takes { Takes maker.old (leaf_record (def.wins_two winner) ∷ []) }
     ensures { OnOk result (GainsEntries maker.old maker.new (leaf_record (def.wins_two winner) ∷ [])) }
 {
-    let outcome = wins_two(alloc, winner)?;
-    put_end(maker, alloc, outcome)
+    put_end(maker, alloc, outcomes.twos.of(winner))
 }
 
 /// Player one faces a bet.
@@ -97,13 +124,24 @@ fn put_answer(
     n: u32,
     i: u32,
     j: u32,
+    own: &OwnSets,
+    outcomes: &Outcomes,
 ) -> Result<(), AllocError>
     requires card { 1 ≤ i }
+    requires own { AreOwnSets n i own.now }
+    requires outcomes { AreOutcomes outcomes.now }
     requires takes { Takes maker.old (def.facing_bet 1 (def.answer n i) (def.wins_one Player.Two) (def.wins_two (def.higher i j))) }
     ensures { OnOk result (GainsEntries maker.old maker.new (def.facing_bet 1 (def.answer n i) (def.wins_one Player.Two) (def.wins_two (def.higher i j)))) }
 {
-    let set = answer(alloc, n, i)?;
-    put_facing_bet(maker, alloc, 1, set, Player::Two, higher(i, j))
+    put_facing_bet(
+        maker,
+        alloc,
+        1,
+        &own.answer,
+        Player::Two,
+        higher(i, j),
+        outcomes,
+    )
 }
 
 /// Player two faces a bet.
@@ -113,13 +151,15 @@ fn put_after_bet(
     n: u32,
     i: u32,
     j: u32,
+    outcomes: &Outcomes,
 ) -> Result<(), AllocError>
     requires card { 1 ≤ j }
+    requires outcomes { AreOutcomes outcomes.now }
     requires takes { Takes maker.old (def.facing_bet 2 (def.after_bet n j) (def.wins_one Player.One) (def.wins_two (def.higher i j))) }
     ensures { OnOk result (GainsEntries maker.old maker.new (def.facing_bet 2 (def.after_bet n j) (def.wins_one Player.One) (def.wins_two (def.higher i j)))) }
 {
     let set = after_bet(alloc, n, j)?;
-    put_facing_bet(maker, alloc, 2, set, Player::One, higher(i, j))
+    put_facing_bet(maker, alloc, 2, &set, Player::One, higher(i, j), outcomes)
 }
 
 /// A player who faces a bet folds or calls, and then `folded` or `called` wins.
@@ -128,34 +168,36 @@ fn put_facing_bet(
     maker: &mut GameMaker,
     alloc: Global,
     player: u64,
-    set: DescribedSet,
+    set: &DescribedSet,
     folded: Player,
     called: Player,
+    outcomes: &Outcomes,
 ) -> Result<(), AllocError>
-    requires from_one { 1 ≤ set.number }
-    requires set { set.number ≤ most }
-    requires takes { Takes maker.old (def.facing_bet player (mention_of_set set) (def.wins_one folded) (def.wins_two called)) }
+    requires from_one { 1 ≤ set.now.number }
+    requires set { set.now.number ≤ most }
+    requires outcomes { AreOutcomes outcomes.now }
+    requires takes { Takes maker.old (def.facing_bet player (mention_of_set set.now) (def.wins_one folded) (def.wins_two called)) }
     ensures { OnOk result (GainsEntries maker.old maker.new
-        (def.facing_bet player (mention_of_set set) (def.wins_one folded) (def.wins_two called))) }
+        (def.facing_bet player (mention_of_set set.now) (def.wins_one folded) (def.wins_two called))) }
 {
     put_move(maker, alloc, player, set)?;
-    put_win_of_one(maker, alloc, folded)?;
-    put_win_of_two(maker, alloc, called)
+    put_win_of_one(maker, alloc, folded, outcomes)?;
+    put_win_of_two(maker, alloc, called, outcomes)
 }
 
 /// Chance moves.
 pub(crate) fn put_deal(
     maker: &mut GameMaker,
     alloc: Global,
-    set: DescribedSet,
+    set: &DescribedSet,
 ) -> Result<(), AllocError>
-    requires from_one { 1 ≤ set.number }
-    requires set { set.number ≤ most }
-    requires takes { Takes maker.old (chance_record (mention_of_set set) ∷ []) }
-    ensures { OnOk result (GainsEntries maker.old maker.new (chance_record (mention_of_set set) ∷ [])) }
+    requires from_one { 1 ≤ set.now.number }
+    requires set { set.now.number ≤ most }
+    requires takes { Takes maker.old (chance_record (mention_of_set set.now) ∷ []) }
+    ensures { OnOk result (GainsEntries maker.old maker.new (chance_record (mention_of_set set.now) ∷ [])) }
 {
     let name = plain(alloc, b"")?;
-    put_entry(maker, inner(EntryKind::Chance, name, 0, set))
+    put_entry(maker, &inner(EntryKind::Chance, &name, 0, set))
 }
 
 /// A player moves.
@@ -163,52 +205,61 @@ fn put_move(
     maker: &mut GameMaker,
     alloc: Global,
     player: u64,
-    set: DescribedSet,
+    set: &DescribedSet,
 ) -> Result<(), AllocError>
-    requires from_one { 1 ≤ set.number }
-    requires set { set.number ≤ most }
-    requires takes { Takes maker.old (player_record player (mention_of_set set) ∷ []) }
-    ensures { OnOk result (GainsEntries maker.old maker.new (player_record player (mention_of_set set) ∷ [])) }
+    requires from_one { 1 ≤ set.now.number }
+    requires set { set.now.number ≤ most }
+    requires takes { Takes maker.old (player_record player (mention_of_set set.now) ∷ []) }
+    ensures { OnOk result (GainsEntries maker.old maker.new (player_record player (mention_of_set set.now) ∷ [])) }
 {
     let name = plain(alloc, b"")?;
-    put_entry(maker, inner(EntryKind::Personal, name, player, set))
+    put_entry(maker, &inner(EntryKind::Personal, &name, player, set))
 }
 
 /// The play is over.
 fn put_end(
     maker: &mut GameMaker,
     alloc: Global,
-    outcome: DescribedOutcome,
+    outcome: &DescribedOutcome,
 ) -> Result<(), AllocError>
-    requires outcome { outcome.number ≤ most }
-    requires takes { Takes maker.old (leaf_record (mention_of_outcome outcome) ∷ []) }
-    ensures { OnOk result (GainsEntries maker.old maker.new (leaf_record (mention_of_outcome outcome) ∷ [])) }
+    requires outcome { outcome.now.number ≤ most }
+    requires takes { Takes maker.old (leaf_record (mention_of_outcome outcome.now) ∷ []) }
+    ensures { OnOk result (GainsEntries maker.old maker.new (leaf_record (mention_of_outcome outcome.now) ∷ [])) }
 {
-    let entry = Record {
+    let name = plain(alloc, b"")?;
+    put_entry(maker, &last(&name, outcome))
+}
+
+/// An entry with an outcome alone.
+fn last<'a>(name: &'a Text, outcome: &'a DescribedOutcome) -> EntryView<'a>
+    ensures { entry_seen result ≡ record { kind = EntryKind.Leaf; name = name.now; player = 0; set = no_set_mention; outcome = mention_of_outcome outcome.now } }
+{
+    EntryView {
+        file: b"",
         kind: EntryKind::Leaf,
-        name: plain(alloc, b"")?,
+        name: name.view(),
         player: 0,
         set: 0,
         set_name: None,
         actions: None,
         outcome: outcome.number,
-        outcome_name: Some(outcome.name),
-        payoffs: Some(outcome.payoffs),
-    };
-    put_entry(maker, entry)
+        outcome_name: Some(outcome.name.view()),
+        payoffs: Some(&outcome.payoffs),
+    }
 }
 
 /// An entry with a set and the null outcome.
-fn inner(kind: EntryKind, name: Text, player: u64, set: DescribedSet) -> Record
-    ensures { record_of result ≡ record { kind = kind; name = name; player = player; set = mention_of_set set; outcome = no_outcome_mention } }
+fn inner<'a>(kind: EntryKind, name: &'a Text, player: u64, set: &'a DescribedSet) -> EntryView<'a>
+    ensures { entry_seen result ≡ record { kind = kind; name = name.now; player = player; set = mention_of_set set.now; outcome = no_outcome_mention } }
 {
-    Record {
+    EntryView {
+        file: b"",
         kind,
-        name,
+        name: name.view(),
         player,
         set: set.number,
-        set_name: Some(set.name),
-        actions: Some(set.actions),
+        set_name: Some(set.name.view()),
+        actions: Some(EntryActions::Owned(&set.actions)),
         outcome: 0,
         outcome_name: None,
         payoffs: None,
@@ -216,13 +267,13 @@ fn inner(kind: EntryKind, name: Text, player: u64, set: DescribedSet) -> Record
 }
 
 /// One entry.
-fn put_entry(maker: &mut GameMaker, entry: Record) -> Result<(), AllocError>
-    requires outcome { entry.outcome ≤ most }
-    requires set { IsTrue (has_set entry.kind) → (1 ≤ entry.set) × (entry.set ≤ most) }
-    requires takes { Takes maker.old (record_of entry ∷ []) }
-    ensures { OnOk result (GainsEntries maker.old maker.new (record_of entry ∷ [])) }
+fn put_entry(maker: &mut GameMaker, entry: &EntryView<'_>) -> Result<(), AllocError>
+    requires outcome { entry.now.outcome ≤ most }
+    requires set { IsTrue (has_set entry.now.kind) → (1 ≤ entry.now.set) × (entry.now.set ≤ most) }
+    requires takes { Takes maker.old (entry_seen entry.now ∷ []) }
+    ensures { OnOk result (GainsEntries maker.old maker.new (entry_seen entry.now ∷ [])) }
 {
-    match maker.push(entry) {
+    match maker.push_entry(entry) {
         Ok(()) => Ok(()),
         Err(Refused::NoMemory) => Err(AllocError),
         Err(Refused::File(_)) => unreachable!(),

@@ -10,9 +10,9 @@ pub put_after_check-requires-clause-takes : goal.put_after_check-requires-clause
 unfolding hand
 put_after_check-requires-clause-takes c = takes_one _ _ _ (takes_more _ _ _ _ c.requires.takes c.in_ok-put_opening.ensures)
 
-pub put_showdown-requires : goal.put_showdown-requires
+pub put_showdown-requires-clause-takes : goal.put_showdown-requires-clause-takes
 unfolding hand
-put_showdown-requires c =
+put_showdown-requires-clause-takes c =
     takes_one _ _ _ (takes_more _ _ _ _ (takes_more _ _ _ _ c.requires.takes c.in_ok-put_opening.ensures) c.in_ok-put_after_check.ensures)
 
 pub put_answer-requires-clause-takes : goal.put_answer-requires-clause-takes
