@@ -14,7 +14,8 @@ use Rattle.def_file.specs.Faults.{mover}
 use Rattle.def_fraction.specs.Fraction.{Fraction}
 use Rattle.def_canon.specs.Described.{Each, Describes}
 use Rattle.def_canon.proofs.NoFault.{each_append}
-use Rattle.def_canon.specs.Poker.{after_bet, after_check, answer, cards, deal_one, deal_two, dealt_card, entries, facing_bet, hand, hands, higher, opening_set, others, rounds_with_cards, wins_one, wins_two}
+use Rattle.def_canon.specs.Poker.{after_bet, after_check, answer, cards, deal_one, deal_two, dealt_card, entries, facing_bet, hand, hands, higher, opening_set}
+use Rattle.def_canon.specs.Poker.{others, rounds_with_cards, wins_one, wins_two}
 use Rattle.def_canon.proofs.Cards.{AreCards, cards_are, others_are, others_count}
 
 -- the set with a number, and the outcome
@@ -32,7 +33,7 @@ outcome_of_poker m =
     else (if nat_eq m 4 then wins_two Two else no_outcome_mention)))
 
 -- a number that is above
-above : (n i : ℕ) → 1 ≤ i → nat_le (n + i) n ≡ false
+pub above : (n i : ℕ) → 1 ≤ i → nat_le (n + i) n ≡ false
 above n i low = false_from_ne_true _ (λ is. let le : n + i ≤ n = leb-true (n + i) n is in absurd (omega arith))
 
 deal_describes : (n : ℕ) (set : SetMention) (actions : List Action) → set ≡ set_with n movers.Chance set.number

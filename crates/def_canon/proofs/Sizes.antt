@@ -1,5 +1,6 @@
 -- How many nodes are wanted after entries that describe their sets whole.
-use Rattle.std.proofs.Common.{◌≡◌, ◌≢◌, ℕ, ◌+◌, ◌-◌, ◌≤◌, ◌<◌, Bool, true, false, cond, List, [], ◌∷◌, ◌++◌, length, map, refl, sym, ap, ◌∙◌, subst, append_assoc}
+use Rattle.std.proofs.Common.{◌≡◌, ◌≢◌, ℕ, ◌+◌, ◌-◌, ◌≤◌, ◌<◌, Bool, true, false, cond, List, [], ◌∷◌, ◌++◌, length, map, refl, sym, ap, ◌∙◌, subst}
+use Rattle.std.proofs.Common.{append_assoc}
 use Rattle.std.specs.Prelude.{if◌then◌else◌, nat_eq, unwrap_or}
 use Rattle.def_tree.specs.declared.Kind.{Kind}
 use Rattle.def_tree.specs.declared.Kind.TheVariants.{One, Two, Leaf}
@@ -37,7 +38,7 @@ not_leaf entry.Leaf player has leaf = cc
 
 module _ (sets : Kind → ℕ → SetMention) (outcomes : ℕ → OutcomeMention) where
   -- a node has the children that its own entry gives
-  own_node : (all before : List Record) (r : Record) (behind : List Record) → all ≡ before ++ r ∷ behind
+  pub own_node : (all before : List Record) (r : Record) (behind : List Record) → all ≡ before ++ r ∷ behind
       → Each (Describes sets outcomes) all → (node_of all r).children ≡ own_children r
   own_node all before r behind split each = chosen (has_set r.kind) refl
     where

@@ -7,6 +7,7 @@ use Rattle.def_fraction.specs.Fraction.{negative_of, over, zero_fraction}
 use Rattle.def_reply.specs.Outcome.{Head}
 use Rattle.def_cert_verdict.specs.Certificate.{PrintedBounds}
 use Rattle.def_cert_verdict.specs.Changes.{said, traced}
+use Rattle.def_cert_verdict.specs.OneMover.{one_mover_head}
 use Rattle.def_cert_verdict.specs.Pennies.{pennies_head}
 use Rattle.def_cert_text.specs.declared.fault.CertFault.TheVariants.{CertSyntax}
 use Rattle.def_cert_text.specs.declared.version.TextVersion.TheVariants as versions
@@ -15,7 +16,7 @@ use Rattle.def_cert_text.specs.Formats.{text_of}
 use Rattle.def_cert_text.specs.Versions.{VersionedCertificate, VersionedFits}
 use Rattle.def_cert_text.specs.CertText.{first_text_of, last_lines, lines_of, versioned_in, versioned_text}
 use Rattle.def_cert_text.specs.Laws.{TextsTell, versioned_head, with_second}
-use Rattle.def_cert_text.specs.VersionTexts.{bracket_of}
+use Rattle.def_cert_text.specs.VersionTexts.{bracket_of, no_round_head}
 
 abbrev pub below_first_text : VersionedCertificate → List ℕ
 below_first_text c = text_of (lines_of c.version (last_lines c.version)) (c.certificate.head, (c.certificate.bounds, (c.second, tt)))
@@ -46,20 +47,7 @@ PlusTextsTellTheirNumbers = TextsTell FitsVersionTwo plus_text
 
 -- ---- texts that are known from outside: six rounds of a game of one mover, whose worse action is cut
 abbrev pub six_rounds_head : Head
-six_rounds_head = record {
-  nodes = 3;
-  leaves = 2;
-  sets_one = 1;
-  sets_two = 0;
-  sequences_one = 3;
-  sequences_two = 1;
-  unit = 1;
-  sum = zero_fraction;
-  mass = 1;
-  rounds = 6;
-  every = 1;
-  scale = 16;
-}
+six_rounds_head = record one_mover_head { rounds = 6; scale = 16 }
 
 abbrev pub six_rounds_bounds : PrintedBounds
 six_rounds_bounds = record {
@@ -111,20 +99,7 @@ six_rounds_lines =
 
 -- ---- a leaf alone of sum -1/3, and matching pennies without rounds
 abbrev pub one_leaf_head : Head
-one_leaf_head = record {
-  nodes = 1;
-  leaves = 1;
-  sets_one = 0;
-  sets_two = 0;
-  sequences_one = 1;
-  sequences_two = 1;
-  unit = 3;
-  sum = over (negative_of 1) 3;
-  mass = 0;
-  rounds = 2;
-  every = 1;
-  scale = 3;
-}
+one_leaf_head = record no_round_head { rounds = 2; scale = 3 }
 
 abbrev pub one_leaf_bounds : PrintedBounds
 one_leaf_bounds = record {

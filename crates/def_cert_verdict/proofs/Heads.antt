@@ -7,7 +7,8 @@ use Rattle.def_plan.specs.Form.{sequence_count}
 use Rattle.def_plan.specs.Payoff.{mass_of}
 use Rattle.def_reply.specs.Outcome.{Head}
 use Rattle.def_cert_verdict.specs.declared.fault.TestFault.{TestFault}
-use Rattle.def_cert_verdict.specs.declared.fault.TestFault.TheVariants.{HeadDiffers, NotAPlan, ValueTooGood, ReplyNotTight, TotalDiffers, TraceWidens, SecondDiffers}
+use Rattle.def_cert_verdict.specs.declared.fault.TestFault.TheVariants.{HeadDiffers, NotAPlan, ValueTooGood, ReplyNotTight, TotalDiffers, TraceWidens}
+use Rattle.def_cert_verdict.specs.declared.fault.TestFault.TheVariants.{SecondDiffers}
 use Rattle.def_plan.specs.Weighed.{WeighedGame}
 use Rattle.def_cert_verdict.specs.Verdict.{first_failing, unless, is_same_fraction, head_tests}
 use Rattle.def_cert_verdict.specs.Laws.{IsHeadOf}
@@ -16,7 +17,7 @@ use Rattle.def_cert_verdict.proofs.Fractions.{same_fraction}
 use Rattle.def_cert_verdict.proofs.TestsDecide.{TestsDecide, TestsDecide-search, TestsDecide-like, Searches, Searches-end, Searches-step, first_unless}
 
 -- two equations on one line
-both : (a b c d : ℕ) → Decides (eqb a b && eqb c d) ((a ≡ b) × (c ≡ d))
+pub both : (a b c d : ℕ) → Decides (eqb a b && eqb c d) ((a ≡ b) × (c ≡ d))
 both a b c d = Decides-and (eqb a b) (eqb c d) (Decides-eqb a b) (Decides-eqb c d)
 
 other_line : (game : WeighedGame) (head : Head) (line : ℕ) → ((1 < line) → (line < 7) → ⊥) → NamesLine game head line
@@ -59,7 +60,7 @@ mass_line game head =
     (λ e. record { nodes = λ l. absurd (omega arith); sets = λ l. absurd (omega arith); sequences = λ l. absurd (omega arith); unit = λ l. absurd (omega arith); mass_is = λ l. d.0 e }, λ s. d.1 (s.mass_is refl))
 
 -- one test of a line, and those of the lines behind it
-line_step : (n : ℕ) (b : Bool) (ts : List (Option TestFault)) (Says : ℕ → Type 0) → Decides b (Says 0)
+pub line_step : (n : ℕ) (b : Bool) (ts : List (Option TestFault)) (Says : ℕ → Type 0) → Decides b (Says 0)
     → Searches TestFault HeadDiffers (first_failing ts) (n + 1) (λ i. Says (suc i))
     → Searches TestFault HeadDiffers (first_failing (unless b (HeadDiffers n) ∷ ts)) n Says
 line_step n b ts Says d s =

@@ -22,7 +22,8 @@ use Rattle.def_reply.specs.Outcome.{Head}
 use Rattle.def_reply.specs.Reply.{choices_of}
 use Rattle.def_reply.specs.Bounds.{IsBestAgainst, IsLeft}
 use Rattle.def_constant_sum.specs.Expected.{ArePlans, expected_payoff}
-use Rattle.def_constant_sum.specs.Bounds.{IsAtMost, IsBestPayoff, IsPlanFor, IsSureOf, difference_of}
+use Rattle.def_fraction.specs.Order.{IsAtMost, difference_of}
+use Rattle.def_constant_sum.specs.Bounds.{IsBestPayoff, IsPlanFor, IsSureOf}
 use Rattle.def_constant_sum.specs.Laws.{IsConstantGame}
 use Rattle.def_constant_sum.proofs.Faultless.{faultless}
 use Rattle.def_constant_sum.proofs.Gains.{best_payoffs}
@@ -55,7 +56,7 @@ accepted_with game head b (bracket low high) one two unit e =
     record { head_is = a.0; holds = a.1; shows = (accepted game head b low high one two unit e).2 }
 
 -- at most what is at most
-at_most-through : (f g h : Fraction) → 1 ≤ g.den → IsAtMost f g → IsAtMost g h → IsAtMost f h
+pub at_most-through : (f g h : Fraction) → 1 ≤ g.den → IsAtMost f g → IsAtMost g h → IsAtMost f h
 at_most-through f g h some below above =
     let left : (f.num *ℤ pos h.den) *ℤ pos g.den ≡ (f.num *ℤ pos g.den) *ℤ pos h.den = swap-last f.num (pos h.den) (pos g.den) in
     let mid : (g.num *ℤ pos f.den) *ℤ pos h.den ≡ (g.num *ℤ pos h.den) *ℤ pos f.den = swap-last g.num (pos f.den) (pos h.den) in

@@ -1,9 +1,11 @@
 -- The upgrade of an accepted certificate is within its ranges, and its text is accepted.
-use Rattle.std.proofs.Common.{◌≡◌, ℕ, ◌+◌, ◌*◌, ◌^◌, ◌≤◌, List, get_or, Option, Some, None, Ok, ℤ, pos, ◌*ℤ◌, unsigned_abs, refl, sym, ap, subst, ◌∙◌, arith, slice_index}
+use Rattle.std.proofs.Common.{◌≡◌, ℕ, ◌+◌, ◌*◌, ◌^◌, ◌≤◌, List, get_or, Option, Some, None, Ok, ℤ, pos, ◌*ℤ◌, unsigned_abs, refl, sym, ap, subst, ◌∙◌, arith}
+use Rattle.std.proofs.Common.{slice_index}
 use Rattle.std.specs.Int.{◌∣◌}
 use Rattle.std.specs.Option.{option_map}
 use Rattle.std.specs.Prelude.{◌-ℤ◌}
-use Rattle.std.proofs.Math.Nat.{div-le_self, dvd-mul_left, dvd-mul_right_of_dvd, le_of_mul-le-mul_right, mul-le-mul, mul-le-mul_left, mul-le-mul_right, mul-one, mul_assoc, mul_comm, one-le-mul, one-mul}
+use Rattle.std.proofs.Math.Nat.{div-le_self, dvd-mul_left, dvd-mul_right_of_dvd, le_of_mul-le-mul_right, mul-le-mul, mul-le-mul_left, mul-le-mul_right, mul-one}
+use Rattle.std.proofs.Math.Nat.{mul_assoc, mul_comm, one-le-mul, one-mul}
 use Rattle.std.proofs.lemmas.Int.{ints, unsigned_abs-mul}
 use Rattle.def_sums.proofs.SumLaws.{nat_sum_over-factor, nat_sum_over-mono, unsigned_abs-sum_over}
 use Rattle.def_tree.specs.declared.Kind.TheVariants as kinds
@@ -24,7 +26,7 @@ use Rattle.def_plan.specs.Weighed.{WeighedGame}
 use Rattle.def_plan.proofs.SizeLaws.{plan-below_root}
 use Rattle.def_reply.specs.Outcome.{Head}
 use Rattle.def_reply.specs.Reply.{choices_of}
-use Rattle.def_constant_sum.specs.Bounds.{difference_of}
+use Rattle.def_fraction.specs.Order.{difference_of}
 use Rattle.def_constant_sum.proofs.Times.{IsTimes, difference-lowest, times-difference}
 use Rattle.def_cert_verdict.specs.Certificate.{PrintedBounds, printed_numbers}
 use Rattle.def_cert_verdict.specs.Ranges.{BoundFits, FitsBelowHead, HeadFits}

@@ -1,5 +1,6 @@
 -- The verdict on certificates of both versions.
-use Rattle.std.proofs.Common.{◌≡◌, ℕ, suc, ◌+◌, ◌-◌, ◌<◌, ◌≤◌, Bool, true, false, ◌&&◌, not, cond, eqb, List, ◌∷◌, length, Option, Some, None, Result, Ok, Err, refl, sym, ap, subst, ◌∙◌, arith, ◌⊎◌, inl, inr, ⊎_elim}
+use Rattle.std.proofs.Common.{◌≡◌, ℕ, suc, ◌+◌, ◌-◌, ◌<◌, ◌≤◌, Bool, true, false, ◌&&◌, not, cond, eqb, length, Option, Some, None, Result, Ok, Err, refl, sym}
+use Rattle.std.proofs.Common.{ap, subst, ◌∙◌, arith, ◌⊎◌, inl, inr, ⊎_elim}
 use Rattle.std.specs.Bool.{Decides}
 use Rattle.std.proofs.lemmas.Bool.{cases_lt, false≢true}
 use Rattle.std.proofs.lemmas.Bool.Decides.{Decides-eqb, Decides-and, Decides-like}
@@ -9,20 +10,23 @@ use Rattle.def_plan.specs.Payoff.{mass_of}
 use Rattle.def_plan.specs.Weighed.{WeighedGame}
 use Rattle.def_reply.specs.Outcome.{Head}
 use Rattle.def_cert_verdict.specs.declared.fault.TestFault.{TestFault}
-use Rattle.def_cert_verdict.specs.declared.fault.TestFault.TheVariants.{HeadDiffers, NotAPlan, ValueTooGood, ReplyNotTight, TotalDiffers, TraceWidens, SecondDiffers}
+use Rattle.def_cert_verdict.specs.declared.fault.TestFault.TheVariants.{HeadDiffers, NotAPlan, ValueTooGood, ReplyNotTight, TotalDiffers, TraceWidens}
+use Rattle.def_cert_verdict.specs.declared.fault.TestFault.TheVariants.{SecondDiffers}
 use Rattle.def_cert_verdict.specs.Certificate.{PrintedBounds, Certificate}
-use Rattle.def_cert_verdict.specs.Verdict.{Verdict, first_failing, unless, is_same_fraction, head_tests, tests_below_head, shown_by, decided_by, verdict}
+use Rattle.def_cert_verdict.specs.Verdict.{Verdict, first_failing, is_same_fraction, head_tests, tests_below_head, shown_by, decided_by, verdict}
 use Rattle.def_cert_verdict.specs.Laws.{IsHeadOf}
 use Rattle.def_cert_verdict.specs.FaultCauses.{IsFirstNot}
 use Rattle.def_cert_verdict.proofs.Fractions.{same_fraction}
-use Rattle.def_cert_verdict.proofs.Heads.{head_described}
-use Rattle.def_cert_verdict.proofs.TestsDecide.{TestsDecide, TestsDecide-append, TestsDecide-search, TestsDecide-like, Searches, Searches-end, Searches-step, first_unless}
+use Rattle.def_cert_verdict.proofs.Heads.{both, head_described, line_step}
+use Rattle.def_cert_verdict.proofs.TestsDecide.{TestsDecide, TestsDecide-append, TestsDecide-search, TestsDecide-like, Searches, Searches-end}
 use Rattle.def_cert_verdict.proofs.VerdictIsExact.{BoundsHoldUp, below_described}
 use Rattle.def_cert_text.specs.Versions.{PrintedBracket, VersionedCertificate, has_second, in_version_one}
 use Rattle.def_cert_text.specs.declared.version.TextVersion.{TextVersion}
 use Rattle.def_cert_text.specs.declared.version.TextVersion.TheVariants as versions
-use Rattle.def_cert_versions.specs.Verdict.{first_trace_line_of, head_tests_of, is_same_bracket, judged_with, second_of, tests_of, upgraded, verdict_by, versioned_verdict}
-use Rattle.def_cert_versions.specs.Laws.{EachVersionedFaultHasItsCause, HasItsSecond, HeadFaultOfTwo, IsSecondFault, NamesLineOfTwo, OldVerdictsStay, TestFaultOf, UpgradesAreAccepted, VersionsAcceptAlike}
+use Rattle.def_cert_versions.specs.Verdict.{first_trace_line_of, head_tests_of, is_same_bracket, judged_with, second_of, tests_of, upgraded, verdict_by}
+use Rattle.def_cert_versions.specs.Verdict.{versioned_verdict}
+use Rattle.def_cert_versions.specs.Laws.{EachVersionedFaultHasItsCause, HasItsSecond, HeadFaultOfTwo, IsSecondFault, NamesLineOfTwo, OldVerdictsStay}
+use Rattle.def_cert_versions.specs.Laws.{TestFaultOf, UpgradesAreAccepted, VersionsAcceptAlike}
 
 -- ---- the head of version 2
 other_line : (game : WeighedGame) (head : Head) (line : ℕ) → ((1 < line) → (line < 8) → ⊥) → NamesLineOfTwo game head line
@@ -34,9 +38,6 @@ other_line game head line far = record {
   mass_is = λ e. absurd (far (omega arith) (omega arith));
   sum_is = λ e. absurd (far (omega arith) (omega arith));
 }
-
-both : (a b c d : ℕ) → Decides (eqb a b && eqb c d) ((a ≡ b) × (c ≡ d))
-both a b c d = Decides-and (eqb a b) (eqb c d) (Decides-eqb a b) (Decides-eqb c d)
 
 nodes_line : (game : WeighedGame) (head : Head)
     → Decides (eqb head.nodes game.nodes && eqb head.leaves (length game.form.leaves)) (NamesLineOfTwo game head 2)
@@ -82,12 +83,6 @@ sum_line game head =
       λ e. record { nodes = λ l. absurd (omega arith); sets = λ l. absurd (omega arith); sequences = λ l. absurd (omega arith); unit = λ l. absurd (omega arith); mass_is = λ l. absurd (omega arith); sum_is = λ l. d.0 e },
       λ s. d.1 (s.sum_is refl),
     )
-
-line_step : (n : ℕ) (b : Bool) (ts : List (Option TestFault)) (Says : ℕ → Type 0) → Decides b (Says 0)
-    → Searches TestFault HeadDiffers (first_failing ts) (n + 1) (λ i. Says (suc i))
-    → Searches TestFault HeadDiffers (first_failing (unless b (HeadDiffers n) ∷ ts)) n Says
-line_step n b ts Says d s =
-    subst (λ r. Searches TestFault HeadDiffers r n Says) (sym (first_unless b (HeadDiffers n) ts)) (Searches-step TestFault HeadDiffers b (first_failing ts) n Says d s)
 
 searched : (game : WeighedGame) (head : Head)
     → Searches TestFault HeadDiffers (first_failing (head_tests_of versions.Two game head)) 2 (λ i. NamesLineOfTwo game head (2 + i))

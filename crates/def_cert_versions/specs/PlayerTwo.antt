@@ -10,7 +10,8 @@ use Rattle.def_game_numbers.specs.Faultless.{IsFaultless}
 use Rattle.def_game_numbers.specs.Numbers.{tables_of}
 use Rattle.def_game_numbers.specs.Weighed.{weighed_game}
 use Rattle.def_reply.specs.Outcome.{Head}
-use Rattle.def_constant_sum.specs.Bounds.{IsAtMost, IsBestPayoff, IsPlanFor, IsSureOf, payoff_by}
+use Rattle.def_fraction.specs.Order.{IsAtMost}
+use Rattle.def_constant_sum.specs.Bounds.{IsBestPayoff, IsPlanFor, IsSureOf, payoff_by}
 use Rattle.def_cert_verdict.specs.Certificate.{PrintedBounds, printed_numbers}
 use Rattle.def_cert_verdict.specs.Verdict.{Verdict}
 use Rattle.def_cert_text.specs.Versions.{PrintedBracket}

@@ -2,17 +2,19 @@
 -- and then the bracket of player two's own payoff.
 --     second_bracket sum b         what the sum leaves of both ends of the bracket, in the other order
 --     versioned_verdict game c     what the certificate shows of the game, or its first fault
-use Rattle.std.specs.Prelude.{ℕ, ◌+◌, ◌==◌, Bool, true, false, ◌&&◌, not, List, [], ◌∷◌, ◌++◌, take, Option, Some, None, Result, Ok, Err, if◌then◌else◌}
+use Rattle.std.specs.Prelude.{ℕ, ◌+◌, ◌==◌, Bool, true, false, ◌&&◌, not, List, [], ◌∷◌, ◌++◌, take, Option, Some, None}
+use Rattle.std.specs.Prelude.{Result, Ok, Err, if◌then◌else◌}
 use Rattle.std.specs.Option.{option_map}
 use Rattle.def_fraction.specs.Fraction.{Fraction}
 use Rattle.def_plan.specs.Payoff.{mass_of}
 use Rattle.def_plan.specs.Weighed.{WeighedGame}
 use Rattle.def_reply.specs.Outcome.{Head}
-use Rattle.def_constant_sum.specs.Bounds.{difference_of}
+use Rattle.def_fraction.specs.Order.{difference_of}
 use Rattle.def_cert_verdict.specs.declared.fault.TestFault.{TestFault}
 use Rattle.def_cert_verdict.specs.declared.fault.TestFault.TheVariants.{HeadDiffers, SecondDiffers}
 use Rattle.def_cert_verdict.specs.Certificate.{PrintedBounds, Certificate}
-use Rattle.def_cert_verdict.specs.Verdict.{Verdict, first_failing, first_trace_line, unless, is_same_fraction, head_tests, tests_below_head, decided_by}
+use Rattle.def_cert_verdict.specs.Verdict.{Verdict, first_failing, first_trace_line, unless, is_same_fraction}
+use Rattle.def_cert_verdict.specs.Verdict.{head_tests, tests_below_head, decided_by}
 use Rattle.def_cert_text.specs.Versions.{PrintedBracket, VersionedCertificate, has_second}
 use Rattle.def_cert_text.specs.declared.version.TextVersion.{TextVersion}
 use Rattle.def_cert_text.specs.declared.version.TextVersion.TheVariants as versions

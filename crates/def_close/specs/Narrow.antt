@@ -2,7 +2,7 @@
 --     IsAsNarrow wide low high      HIGH less LOW is at most this width
 use Rattle.std.specs.Prelude.{ℤ, ℕ, pos, ◌-ℤ◌, ◌*ℤ◌, ◌≤ℤ◌}
 use Rattle.def_fraction.specs.Fraction.{Fraction}
-use Rattle.def_constant_sum.specs.Bounds.{IsAtMost}
+use Rattle.def_fraction.specs.Order.{IsAtMost}
 use Rattle.def_program.specs.Bounds.{difference}
 
 -- HIGH less LOW, as an exact fraction, is at most the width

@@ -1,5 +1,5 @@
 -- All rounds: the potentials of each set, and what the sums of plans pay.
-use Rattle.std.proofs.Common.{◌≡◌, ℕ, zero, suc, ◌+◌, ◌*◌, ◌≤◌, ◌<◌, List, [], ◌∷◌, get_or, replicate, All, arith, ap, ◌∙◌, refl, subst}
+use Rattle.std.proofs.Common.{◌≡◌, ℕ, ◌+◌, ◌*◌, ◌≤◌, ◌<◌, List, [], ◌∷◌, get_or, replicate, All, arith, ap, ◌∙◌, refl, subst}
 use Rattle.std.specs.Prelude.{ℤ, pos, ◌+ℤ◌, ◌-ℤ◌, ◌≤ℤ◌}
 use Rattle.def_plan.specs.Form.{InformationSet, PlacedSet, placed, sequences_of, AreInOrder}
 use Rattle.def_plan.specs.Payoff.{worth}
@@ -14,6 +14,7 @@ use Rattle.def_closing.specs.Width.{root_up, AreWithinSpread, drift, regret_boun
 use Rattle.def_closing.proofs.Potential.{potential}
 use Rattle.def_closing.proofs.SetBound.{potential_after, potential_after-square, one_of_potential}
 use Rattle.def_closing.proofs.OneRound.{square_bound, side_bound, set_step}
+use Rattle.def_plus.proofs.PlusRegrets.{none_yet}
 
 -- the potential of each set after t of the rounds
 abbrev pub SetWithin : ℕ → ℕ → ℕ → (PlacedSet → ℕ) → List ℤ → PlacedSet → Type 0
@@ -24,16 +25,10 @@ SetWithin root last t spread regrets h =
 abbrev pub AreWithin : ℕ → ℕ → ℕ → (PlacedSet → ℕ) → List InformationSet → List ℤ → Type 0
 AreWithin root last t spread sets regrets = All (SetWithin root last t spread regrets) (placed sets)
 
--- at first there is none
-pub no_regret : (n s : ℕ) → regret_of (replicate n (pos 0)) s ≡ pos 0
-no_regret zero s = refl
-no_regret (suc n) zero = refl
-no_regret (suc n) (suc s) = no_regret n s
-
 no_potential : (n : ℕ) (xs : List ℕ) → potential (regret_of (replicate n (pos 0))) xs ≡ 0
 no_potential n [] = refl
 no_potential n (x ∷ xs) =
-    let here : positive_part (regret_of (replicate n (pos 0)) x) ≡ 0 = ap positive_part (no_regret n x) in
+    let here : positive_part (regret_of (replicate n (pos 0)) x) ≡ 0 = ap positive_part (none_yet n x) in
     let square : positive_part (regret_of (replicate n (pos 0)) x) * positive_part (regret_of (replicate n (pos 0)) x) ≡ 0 =
     ap (λ k. k * k) here ∙ omega arith in
     omega (arith, square, no_potential n xs)

@@ -1,8 +1,7 @@
 -- Plans that follow a choice at each set, whether it is a best one or not: what they gain by the values of their choices.
-use Rattle.std.proofs.Common.{◌≡◌, ℕ, ◌+◌, ◌≤◌, ◌<◌, cond, eqb, List, [], ◌∷◌, slice_index, get_or, All, arith, ap, sym, ◌∙◌, ⊎_elim}
+use Rattle.std.proofs.Common.{◌≡◌, ℕ, ◌+◌, ◌≤◌, ◌<◌, cond, eqb, List, [], ◌∷◌, slice_index, get_or, All, arith, sym, ◌∙◌}
 use Rattle.std.specs.Prelude.{ℤ}
 use Rattle.std.specs.List.{AllZip}
-use Rattle.std.proofs.lemmas.Bool.Decides.{eqb_tells}
 use Rattle.std.proofs.lemmas.List.Elements.{All-head, All-tail}
 use Rattle.def_sums.proofs.RingLaws.{one-*ℤ}
 use Rattle.def_plan.specs.Form.{InformationSet, PlacedSet, placed_from, placed, sequences_of, IsInOrder, AreInOrder}
@@ -12,6 +11,7 @@ use Rattle.def_plan.proofs.Duality.{complementary_slackness_lem}
 use Rattle.def_plan.proofs.Choices.{pure_plan-is_plan, pure_plan-follows}
 use Rattle.def_reply.specs.Reply.{SetReply, values_of, choices_of}
 use Rattle.def_reply.proofs.Equations.{worth-later}
+use Rattle.def_reply.proofs.Optimal.{only_chosen}
 
 -- a choice is an action, and the value is what that action is worth
 pub record IsFollowed (w : ℕ → ℤ) (h : PlacedSet) (r : SetReply) : Type 0 where
@@ -65,10 +65,6 @@ actions w first [] [] f = f
 actions w first [] (r ∷ rs) f = f
 actions w first (h ∷ hs) [] f = f
 actions w first (h ∷ hs) (r ∷ rs) f = ((f.0.some, f.0.within), actions w (first + h.actions) hs rs f.1)
-
-only_chosen : (w : ℕ → ℤ) (value : ℤ) (n s c : ℕ) (x : ℕ) → w c ≡ value → x ≡ cond (eqb s c) n 0 → 0 < x → w s ≡ value
-only_chosen w value n s c x reached e some =
-    ⊎_elim (λ yes. ap w yes.1 ∙ reached) (λ no. absurd (omega (arith, e ∙ ap (λ b. cond b n 0) no.0))) (eqb_tells s c)
 
 only_tight : (w : ℕ → ℤ) (plan : List ℕ) (hs : List PlacedSet) (rs : List SetReply)
     → AllZip (IsFollowed w) hs rs

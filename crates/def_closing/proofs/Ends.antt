@@ -14,14 +14,10 @@ use Rattle.def_plan.specs.Form.{SequenceForm}
 use Rattle.def_reply.specs.Bracket.{Evaluation, BracketEnds, ends_of, evaluated_rounds, HasFloorAtMost, HasCeilingAtMost}
 use Rattle.def_reply.proofs.EvaluatedRounds.{rounds as rounds_evaluated}
 use Rattle.def_run.specs.Run.{WeighedRun, HasWeights, evaluation_in, evaluations_in, plain_run}
-use Rattle.def_run.proofs.WeighedEnds.{weighed_ends_are_the_earliest_best, each_is_of_a_round, divided_in, some_ends}
+use Rattle.def_run.proofs.WeighedEnds.{divided_in, each_is_of_a_round, length_evaluations, some_ends, weighed_ends_are_the_earliest_best}
 use Rattle.def_closing.specs.Laws.{BracketsClose}
 use Rattle.def_closing.specs.Width.{width_bound, AreEndsWithin, IsLineWithin}
 use Rattle.def_closing.proofs.Closing.{evaluations_close}
-
-length_map : (form : SequenceForm) (run : WeighedRun) (ks : List ℕ) → length (map (evaluation_in form run) ks) ≡ length ks
-length_map form run [] = refl
-length_map form run (k ∷ ks) = ap suc (length_map form run ks)
 
 at_map : (form : SequenceForm) (run : WeighedRun) (ks : List ℕ) (k : ℕ) (d : Evaluation) (c : ℕ) → k < length ks
     → get_or (map (evaluation_in form run) ks) k d ≡ evaluation_in form run (get_or ks k c)
@@ -37,7 +33,7 @@ of_last form run every last P some all =
     let is = (rounds_evaluated.which every last last).1 (some, omega arith, inr refl) in
     let low : is.0 < length ks = is.1 in
     let here : P (get_or (map (evaluation_in form run) ks) is.0 (evaluation_in form run last)) =
-    all is.0 (evaluation_in form run last) (omega (arith, length_map form run ks, low)) in
+    all is.0 (evaluation_in form run last) (omega (arith, length_evaluations form run ks, low)) in
     subst (λ k. P (evaluation_in form run k)) is.2 (subst P (at_map form run ks is.0 (evaluation_in form run last) last low) here)
 
 -- both ends against the last evaluation, in numbers

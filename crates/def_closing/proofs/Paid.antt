@@ -1,5 +1,5 @@
 -- What the sums of plans pay against any plan: what the regrets gain, and the worth of the rounds.
-use Rattle.std.proofs.Common.{◌≡◌, ℕ, zero, suc, ◌+◌, ◌*◌, ◌≤◌, List, [], ◌∷◌, length, slice_index, replicate, All, arith, ap, ◌∙◌, refl}
+use Rattle.std.proofs.Common.{◌≡◌, ℕ, ◌+◌, ◌*◌, ◌≤◌, List, [], ◌∷◌, length, slice_index, replicate, All, arith, ap, ◌∙◌, refl}
 use Rattle.std.specs.Prelude.{ℤ, pos, ◌+ℤ◌, ◌*ℤ◌, ◌≤ℤ◌}
 use Rattle.std.proofs.lemmas.Int.{ints}
 use Rattle.std.proofs.lemmas.List.Elements.{All-head, All-tail}
@@ -14,6 +14,7 @@ use Rattle.def_plan.proofs.SizeLaws.{plan-below_root}
 use Rattle.def_round.specs.Play.{regret_of}
 use Rattle.def_plan.proofs.Duality.{at_sets}
 use Rattle.def_closing.proofs.Identity.{no_regret_of_empty}
+use Rattle.def_plus.proofs.PlusSums.{zeros}
 
 -- ---- what plans pay is linear in each
 pay_one_more : (w : ℤ) (a b c : ℕ) → w *ℤ pos (a * (b + c)) ≡ w *ℤ pos (a * b) +ℤ w *ℤ pos (a * c)
@@ -53,24 +54,18 @@ pay-added_one (l ∷ ls) x y z e =
       pay-added_one ls x y z e,
     )
 
--- a cleared sum pays nothing
-none_there : (n s : ℕ) → slice_index (replicate n 0) s ≡ 0
-none_there zero s = refl
-none_there (suc n) zero = refl
-none_there (suc n) (suc s) = none_there n s
-
 pub pay-cleared_two : (leaves : List Leaf) (x : List ℕ) (n : ℕ) → pay leaves x (replicate n 0) ≡ pos 0
 pay-cleared_two [] x n = refl
 pay-cleared_two (l ∷ ls) x n =
     let here : l.weight *ℤ pos (slice_index x l.sequence_one * slice_index (replicate n 0) l.sequence_two) ≡ pos 0 =
-    ap (λ k. l.weight *ℤ pos (slice_index x l.sequence_one * k)) (none_there n l.sequence_two) ∙ ap (λ k. l.weight *ℤ pos k) (omega arith) ∙ *ℤ-zero l.weight in
+    ap (λ k. l.weight *ℤ pos (slice_index x l.sequence_one * k)) (zeros n l.sequence_two) ∙ ap (λ k. l.weight *ℤ pos k) (omega arith) ∙ *ℤ-zero l.weight in
     omega (arith, ints, here, pay-cleared_two ls x n)
 
 pub pay-cleared_one : (leaves : List Leaf) (n : ℕ) (x : List ℕ) → pay leaves (replicate n 0) x ≡ pos 0
 pay-cleared_one [] n x = refl
 pay-cleared_one (l ∷ ls) n x =
     let here : l.weight *ℤ pos (slice_index (replicate n 0) l.sequence_one * slice_index x l.sequence_two) ≡ pos 0 =
-    ap (λ k. l.weight *ℤ pos (k * slice_index x l.sequence_two)) (none_there n l.sequence_one) ∙ ap (λ k. l.weight *ℤ pos k) (omega arith) ∙ *ℤ-zero l.weight in
+    ap (λ k. l.weight *ℤ pos (k * slice_index x l.sequence_two)) (zeros n l.sequence_one) ∙ ap (λ k. l.weight *ℤ pos k) (omega arith) ∙ *ℤ-zero l.weight in
     omega (arith, ints, here, pay-cleared_one ls n x)
 
 pub gain-none : (sums : ℕ → ℤ) (xs x : List ℕ) → ((s : ℕ) → sums s ≡ pos 0) → sum_over (λ s. sums s *ℤ pos (slice_index x s)) xs ≡ pos 0

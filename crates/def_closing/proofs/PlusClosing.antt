@@ -1,6 +1,6 @@
 -- How far apart the bounds of both sums of plans are after some rounds of CFR+.
 use Rattle.std.proofs.Common.{◌≡◌, ℕ, zero, suc, ◌+◌, ◌*◌, ◌≤◌, ◌<◌, List, [], ◌∷◌, length, get_or, slice_index, arith, ap, sym, ◌∙◌, refl, subst}
-use Rattle.std.specs.Prelude.{ℤ, pos, negsuc, ◌+ℤ◌, ◌*ℤ◌, ◌≤ℤ◌, neg_ℤ}
+use Rattle.std.specs.Prelude.{ℤ, pos, ◌+ℤ◌, ◌*ℤ◌, ◌≤ℤ◌, neg_ℤ}
 use Rattle.std.specs.Int.{int_max}
 use Rattle.std.proofs.lemmas.Int.{ints, clamps}
 use Rattle.std.proofs.lemmas.List.{length-replicate}
@@ -20,7 +20,7 @@ use Rattle.def_plus.specs.Cut.{cut}
 use Rattle.def_plus.specs.Multiple.{added_times}
 use Rattle.def_plus.specs.Weights.{total_weight}
 use Rattle.def_plus.specs.PlusRounds.{next_plus_round, plus_rounds}
-use Rattle.def_plus.proofs.Cuts.{regret_of-cut, not_negative-cut}
+use Rattle.def_plus.proofs.Cuts.{not_negative-cut, regret_of-cut, same_part}
 use Rattle.def_plus.proofs.Multiples.{at-added_times, length-added_times}
 use Rattle.def_plus.proofs.WeightLaws.{next_weight}
 use Rattle.def_plus_run.specs.PlusRun.{plus_run, plus_evaluation}
@@ -35,16 +35,6 @@ use Rattle.def_closing.proofs.Closing.{all_regrets}
 use Rattle.def_closing.proofs.Ends.{ends_close_in}
 
 -- ---- a cut keeps the potential and loses no gain
-same_part : (r : ℤ) → positive_part (int_max (pos 0) r) ≡ positive_part r
-same_part (pos n) = ap positive_part (is (pos n) (omega (arith, ints)))
-  where
-    is : (r : ℤ) → pos 0 ≤ℤ r → int_max (pos 0) r ≡ r
-    is r h = omega (arith, ints, clamps)
-same_part (negsuc n) = ap positive_part (is (negsuc n) (omega (arith, ints)))
-  where
-    is : (r : ℤ) → r ≤ℤ pos 0 → int_max (pos 0) r ≡ pos 0
-    is r h = omega (arith, ints, clamps)
-
 cut_within : (root last t : ℕ) (spread : PlacedSet → ℕ) (sets : List InformationSet) (regrets : List ℤ)
     → AreWithin root last t spread sets regrets → AreWithin root last t spread sets (cut regrets)
 cut_within root last t spread sets regrets within k d low =

@@ -1,16 +1,17 @@
 -- What a round can add to the regrets of one set: they are never further apart than the set's values, and some are not
 -- above 0 and some not below.
-use Rattle.std.proofs.Common.{◌≡◌, ℕ, zero, suc, ◌+◌, ◌*◌, ◌≤◌, ◌<◌, ◌≢◌, ◌⊎◌, inl, inr, List, arith, ap, sym, ◌∙◌, subst, ⊎_elim}
+use Rattle.std.proofs.Common.{◌≡◌, ℕ, zero, suc, ◌+◌, ◌*◌, ◌≤◌, ◌<◌, ◌≢◌, ◌⊎◌, inl, inr, arith, ap, sym, subst, ⊎_elim}
 use Rattle.std.specs.Prelude.{ℤ, pos, negsuc, ◌+ℤ◌, ◌-ℤ◌, ◌*ℤ◌, ◌≤ℤ◌, ◌<ℤ◌, neg_ℤ, unsigned_abs}
 use Rattle.std.specs.List.{range_with_len}
 use Rattle.std.proofs.lemmas.Int.{ints, by_lt_z}
 use Rattle.std.proofs.lemmas.Bool.{cases_eq}
 use Rattle.std.proofs.Math.Nat.{mul-le-mul_left}
 use Rattle.def_sums.specs.Sum.{sum_over, nat_sum_over}
-use Rattle.def_sums.proofs.RingLaws.{*ℤ-mono, *ℤ_comm}
-use Rattle.def_sums.proofs.SumLaws.{sum_over-mono, sum_over-factor, sum_over-same, sum_over-pos}
+use Rattle.def_sums.proofs.RingLaws.{*ℤ-mono}
+use Rattle.def_sums.proofs.SumLaws.{sum_over-mono}
 use Rattle.def_sums.proofs.Ranges.{All-range, at_most_sum}
 use Rattle.def_closing.proofs.Potential.{size_of}
+use Rattle.def_round.proofs.Averages.{same_for_all}
 
 abbrev pub InRow : ℕ → ℕ → ℕ → Type 0
 InRow a n s = (a ≤ s) × (s < a + n)
@@ -50,24 +51,17 @@ pub record IsGrowth (units : ℕ) (play : ℕ → ℕ) (growth : ℕ → ℤ) (a
   pub below_one : sum_over (λ s. pos (play s) *ℤ growth s) (range_with_len first actions) <ℤ pos units
   pub none_apart : (s t : ℕ) → InRow first actions s → InRow first actions t → growth s ≤ℤ (growth t +ℤ pos apart)
 
--- the average where all are at least c, and where all are at most c
-constant_sum : (play : ℕ → ℕ) (c : ℤ) (xs : List ℕ)
-    → sum_over (λ s. pos (play s) *ℤ c) xs ≡ c *ℤ pos (nat_sum_over play xs)
-constant_sum play c xs =
-    sum_over-same (λ s. pos (play s) *ℤ c) (λ s. c *ℤ pos (play s)) xs (λ k d low. *ℤ_comm _ c)
-    ∙ sum_over-factor c (λ s. pos (play s)) xs ∙ ap (λ z. c *ℤ z) (sum_over-pos play xs)
-
 all_above : (play : ℕ → ℕ) (f : ℕ → ℤ) (c : ℤ) (a n : ℕ) → ((s : ℕ) → InRow a n s → c ≤ℤ f s)
     → (c *ℤ pos (nat_sum_over play (range_with_len a n))) ≤ℤ sum_over (λ s. pos (play s) *ℤ f s) (range_with_len a n)
 all_above play f c a n le =
-    subst (λ z. z ≤ℤ sum_over (λ s. pos (play s) *ℤ f s) (range_with_len a n)) (constant_sum play c (range_with_len a n))
+    subst (λ z. z ≤ℤ sum_over (λ s. pos (play s) *ℤ f s) (range_with_len a n)) (same_for_all play c (range_with_len a n))
     (sum_over-mono (λ s. pos (play s) *ℤ c) (λ s. pos (play s) *ℤ f s) (range_with_len a n)
     (All-range (λ s. (pos (play s) *ℤ c) ≤ℤ (pos (play s) *ℤ f s)) a n (λ s low high. *ℤ-mono (play s) c (f s) (le s (low, high)))))
 
 all_below : (play : ℕ → ℕ) (f : ℕ → ℤ) (c : ℤ) (a n : ℕ) → ((s : ℕ) → InRow a n s → f s ≤ℤ c)
     → sum_over (λ s. pos (play s) *ℤ f s) (range_with_len a n) ≤ℤ (c *ℤ pos (nat_sum_over play (range_with_len a n)))
 all_below play f c a n le =
-    subst (λ z. sum_over (λ s. pos (play s) *ℤ f s) (range_with_len a n) ≤ℤ z) (constant_sum play c (range_with_len a n))
+    subst (λ z. sum_over (λ s. pos (play s) *ℤ f s) (range_with_len a n) ≤ℤ z) (same_for_all play c (range_with_len a n))
     (sum_over-mono (λ s. pos (play s) *ℤ f s) (λ s. pos (play s) *ℤ c) (range_with_len a n)
     (All-range (λ s. (pos (play s) *ℤ f s) ≤ℤ (pos (play s) *ℤ c)) a n (λ s low high. *ℤ-mono (play s) (f s) c (le s (low, high)))))
 

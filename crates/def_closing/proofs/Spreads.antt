@@ -3,24 +3,22 @@ use Rattle.std.proofs.Common.{◌≡◌, ℕ, ◌+◌, ◌*◌, ◌≤◌, ◌<�
 use Rattle.std.proofs.Common.{List, [], ◌∷◌, get_or, slice_index, zip, filter, All, arith, ap, sym, refl, subst, ⊎_elim}
 use Rattle.std.specs.Prelude.{min, ℤ, pos, ◌+ℤ◌, ◌*ℤ◌, ◌≤ℤ◌, unsigned_abs}
 use Rattle.std.specs.List.{range_with_len}
-use Rattle.std.proofs.lemmas.Int.{ints, unsigned_abs-mul}
+use Rattle.std.proofs.lemmas.Int.{ints}
 use Rattle.std.proofs.lemmas.Bool.{cases_eq, cases_lt}
 use Rattle.std.proofs.lemmas.List.Elements.{All-head, All-tail}
-use Rattle.std.proofs.Math.Nat.{mul-le-mul_left}
 use Rattle.def_sums.specs.Sum.{sum_over, nat_sum_over}
 use Rattle.def_sums.proofs.SumLaws.{nat_sum_over-mono, nat_sum_over-factor}
 use Rattle.def_tree.specs.declared.Player.{Player}
-use Rattle.def_tree.specs.declared.Player.TheVariants.{One, Two}
 use Rattle.def_tree.specs.Opponent.{opponent}
 use Rattle.def_plan.specs.Form.{InformationSet, PlacedSet, placed, sequences_of, player_sets, Leaf, leaf_sequence}
 use Rattle.def_plan.specs.Payoff.{leaf_sum, worth, mass_of}
-use Rattle.def_plan.proofs.SizeLaws.{plan-below_root}
+use Rattle.def_plan.proofs.SizeLaws.{one_leaf, plan-below_root}
 use Rattle.def_plan.proofs.Worths.{AllZip-at}
 use Rattle.def_round.specs.Play.{units}
-use Rattle.def_round.specs.Round.{utility, own_sum, set_value, values_from, round_values}
+use Rattle.def_round.specs.Round.{own_sum, set_value, values_from, round_values}
 use Rattle.def_round.specs.Sizes.{size_of_sums, IsWithin}
 use Rattle.def_round.proofs.Averages.{value_within}
-use Rattle.def_round.proofs.Growth.{own_sums_small}
+use Rattle.def_round.proofs.Growth.{own_sums_small, utility_size}
 use Rattle.def_round.proofs.Trees.{values_within}
 use Rattle.def_closing.specs.Width.{size_at, size_from, size_after}
 use Rattle.def_closing.specs.Laws.{MassIsSpread, SizesAreSpread, LesserIsSpread}
@@ -49,10 +47,6 @@ mass_is_spread player form order root play plan whole is k d low s t is_s is_t =
     apart_by_sizes (worth sums (placed sets) values) h.first h.actions (root * mass_of form.leaves) (omega (arith, within.worths, small)) s t is_s is_t
 
 -- ---- the leaves after a set
--- a leaf sum is at most the root times the sizes of its leaves
-one_leaf : (w : ℤ) (n root : ℕ) → n ≤ root → unsigned_abs (w *ℤ pos n) ≤ unsigned_abs w * root
-one_leaf w n root le = omega (arith, unsigned_abs-mul w (pos n), mul-le-mul_left (unsigned_abs w) le)
-
 leaves_small : (other : Player) (plan : List ℕ) (root : ℕ) → ((s : ℕ) → slice_index plan s ≤ root) → (zs : List Leaf)
     → unsigned_abs (sum_over (λ z. z.weight *ℤ pos (slice_index plan (leaf_sequence other z))) zs) ≤ root * nat_sum_over (λ z. unsigned_abs z.weight) zs
 leaves_small other plan root small [] = omega (arith, ints)
@@ -64,10 +58,6 @@ leaves_small other plan root small (z ∷ zs) =
       leaves_small other plan root small
           zs,
     )
-
-utility_size : (player : Player) (payoff : ℤ) → unsigned_abs (utility player payoff) ≡ unsigned_abs payoff
-utility_size One payoff = refl
-utility_size Two payoff = omega (arith, ints)
 
 sum_small : (player : Player) (leaves : List Leaf) (plan : List ℕ) (root : ℕ) → ((s : ℕ) → slice_index plan s ≤ root) → (s : ℕ)
     → unsigned_abs (own_sum player leaves plan s) ≤ root * size_at player leaves s

@@ -13,7 +13,8 @@ use Rattle.def_sequence_form.specs.Form.{form_of_game}
 use Rattle.def_sequence_form.proofs.Sets.{form_is_in_order}
 use Rattle.def_game_numbers.specs.Numbers.{game_file_fault, tables_of}
 use Rattle.def_game_numbers.proofs.Fractions.{tables_lowest}
-use Rattle.def_constant_sum.proofs.Faultless.{faultless, none_found}
+use Rattle.def_game_numbers.proofs.WholeSums.{none_found}
+use Rattle.def_constant_sum.proofs.Faultless.{faultless}
 use Rattle.def_closing.specs.Width.{IsSpread, PaysWithin, form_spread}
 use Rattle.def_closing.specs.Laws.{AreInOrderBoth}
 use Rattle.def_closing.proofs.Spreads.{lesser_is_spread}

@@ -1,6 +1,6 @@
 -- What two plans pay is between the least payoff of a leaf and the greatest.
-use Rattle.std.proofs.Common.{◌≡◌, ℕ, zero, suc, ◌*◌, ◌≤◌, List, [], ◌∷◌, get_or, map, refl, ap, sym, subst, ◌∙◌, arith}
-use Rattle.std.specs.Prelude.{ℤ, pos, negsuc, ◌+ℤ◌, ◌*ℤ◌, ◌≤ℤ◌, All}
+use Rattle.std.proofs.Common.{◌≡◌, ℕ, zero, suc, ◌*◌, ◌≤◌, List, get_or, ap, sym, subst, ◌∙◌, arith}
+use Rattle.std.specs.Prelude.{ℤ, pos, negsuc, ◌*ℤ◌, ◌≤ℤ◌, All}
 use Prim.Native.Nat.{◌∣◌}
 use Rattle.std.proofs.lemmas.Int.{ints}
 use Rattle.std.proofs.lemmas.List.{get_or-map, length-map}
@@ -18,11 +18,12 @@ use Rattle.def_game_scale.proofs.Expected.{fractions-lowest}
 use Rattle.def_game_scale.proofs.Units.{den-divides, whole-weight}
 use Rattle.def_plan.specs.Plan.{IsPlan}
 use Rattle.def_plan.specs.Payoff.{pay}
-use Rattle.def_sequence_form.specs.Form.{form_of_game, information_sets, leaves_with}
+use Rattle.def_sequence_form.specs.Form.{form_of_game, information_sets}
 use Rattle.def_constant_sum.specs.Expected.{IsCompleteGame, numbers_at}
 use Rattle.def_constant_sum.proofs.Lowest.{payoff_of-lowest, reach-lowest}
 use Rattle.def_constant_sum.proofs.Times.{reduced-times, swap-first}
 use Rattle.def_constant_sum.proofs.Reaches.{IsWhole, common, common_some, dealt_in_all, dealt_to, share, whole_everywhere}
+use Rattle.def_constant_sum.proofs.Payments.{pay_along}
 use Rattle.def_tree.specs.declared.Player.TheVariants.{One}
 use Rattle.def_tree.specs.declared.Kind.TheVariants as kinds
 use Rattle.def_closing_games.specs.Range.{HasNoNegativeChance}
@@ -91,12 +92,6 @@ at_leaf_to (pos k) (pos r) w f high unit common d e m positive some_d some_e wei
     (subst (λ z. z ≤ℤ ((high *ℤ pos k) *ℤ pos m)) (sym (times_numbers (pos common) w m)) more)
 
 -- ---- over all leaves
-pay_along : (tables : Tables) (tree : Forest) (x y : List ℕ) (unit : ℕ) (vs : List Visit)
-    → pay (leaves_with tree vs (map (weight_of unit) (map (expected tables) vs))) x y
-    ≡ sum_over (λ v. weight_of unit (expected tables v) *ℤ pos (numbers_at tree x y v)) vs
-pay_along tables tree x y unit [] = refl
-pay_along tables tree x y unit (v ∷ vs) = ap (λ z. weight_of unit (expected tables v) *ℤ pos (numbers_at tree x y v) +ℤ z) (pay_along tables tree x y unit vs)
-
 module _ (tables : Tables) (tree : Forest) (game : IsCompleteGame tables tree) (signs : HasNoNegativeChance tables tree)
     (root_one root_two : ℕ) (x y : List ℕ) (p : IsPlan (information_sets kinds.One tree) root_one x) (q : IsPlan (information_sets kinds.Two tree) root_two y)
   where

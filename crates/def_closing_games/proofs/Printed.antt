@@ -16,7 +16,7 @@ use Rattle.def_plus.specs.Weights.{total_weight}
 use Rattle.def_plus_run.specs.PlusRun.{plus_run}
 use Rattle.def_plus_run.proofs.PlusRuns.{plus_runs_sum_plans}
 use Rattle.def_game_numbers.specs.Numbers.{tables_of}
-use Rattle.def_constant_sum.specs.Bounds.{IsAtMost, difference_of}
+use Rattle.def_fraction.specs.Order.{IsAtMost, difference_of}
 use Rattle.def_constant_sum.proofs.Faultless.{faultless}
 use Rattle.def_constant_sum.proofs.Payments.{unit_some}
 use Rattle.def_constant_sum.proofs.Times.{IsTimes, difference-lowest, times-difference, times-order, times-reduced}

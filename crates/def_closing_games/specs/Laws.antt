@@ -18,7 +18,7 @@ use Rattle.def_plus.specs.Weights.{total_weight}
 use Rattle.def_plus_run.specs.PlusRun.{plus_evaluations}
 use Rattle.def_plus_run.specs.VariantRun.{run_of}
 use Rattle.def_game_numbers.specs.Numbers.{game_file_fault, tables_of}
-use Rattle.def_constant_sum.specs.Bounds.{IsAtMost}
+use Rattle.def_fraction.specs.Order.{IsAtMost}
 use Rattle.def_constant_sum.specs.Expected.{IsCompleteGame}
 use Rattle.def_closing.specs.Width.{PaysWithin, width_bound, plus_width_bound, closing_width, AreEndsWithin}
 use Rattle.def_closing_games.specs.Range.{HasNoNegativeChance, PayoffsAreWithin, game_spread}

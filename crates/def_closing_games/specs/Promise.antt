@@ -14,7 +14,7 @@ use Rattle.def_reply.specs.Bracket.{BracketEnds}
 use Rattle.def_plus.specs.declared.Variant.{Variant}
 use Rattle.def_plus.specs.declared.Variant.TheVariants.{Plain, Plus}
 use Rattle.def_plus.specs.Variants.{weight_of_rounds}
-use Rattle.def_constant_sum.specs.Bounds.{difference_of}
+use Rattle.def_fraction.specs.Order.{difference_of}
 use Rattle.def_closing.specs.Width.{width_bound, plus_width_bound}
 use Rattle.def_closing_games.specs.Range.{game_spread, payoff_range}
 

@@ -21,7 +21,7 @@ use Rattle.def_cert_verdict.specs.Certificate.{Certificate, PrintedBounds}
 use Rattle.def_cert_accepted.specs.OfOutcome.{certificate_of}
 use Rattle.def_cert_accepted.proofs.OfRun.{bounds_in, certificate_in, same_head}
 use Rattle.def_command.specs.Grammar.{Settings}
-use Rattle.def_constant_sum.specs.Bounds.{IsAtMost, difference_of}
+use Rattle.def_fraction.specs.Order.{IsAtMost, difference_of}
 use Rattle.def_program.specs.Text.{game_head}
 use Rattle.def_program.specs.Bounds.{game_bounds}
 use Rattle.def_program.proofs.Played.{head_of_game}

@@ -6,7 +6,7 @@ use Rattle.std.specs.Prelude.{◌≡◌, ℕ, ◌≤◌, List, Option}
 use Rattle.def_outside.specs.Calls.{SinkCall, Wrote}
 use Rattle.def_fraction.specs.Fraction.{Fraction}
 use Rattle.def_game_numbers.specs.Numbers.{tables_of}
-use Rattle.def_constant_sum.specs.Bounds.{IsAtMost, difference_of}
+use Rattle.def_fraction.specs.Order.{IsAtMost, difference_of}
 use Rattle.def_cert_verdict.specs.Certificate.{PrintedBounds}
 use Rattle.def_command.specs.Grammar.{command_of_words}
 use Rattle.def_program.specs.Bounds.{IsPlayed, PlayedPart, WroteBounds}

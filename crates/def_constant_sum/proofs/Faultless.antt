@@ -1,6 +1,5 @@
 -- The game of a file without a fault is complete and of constant sum.
-use Rattle.std.proofs.Common.{◌≡◌, ◌≢◌, ◌-◌, ◌<◌, List, [], length, get_or, map, refl, ap, sym, subst, ◌∙◌, arith, Some, None}
-use Rattle.std.specs.Prelude.{Option}
+use Rattle.std.proofs.Common.{◌≡◌, ◌≢◌, ◌-◌, ◌<◌, List, [], length, get_or, map, ap, sym, subst, ◌∙◌, arith}
 use Rattle.std.proofs.lemmas.List.{get_or-map, length-map}
 use Rattle.def_tree.specs.declared.Kind.TheVariants.{Chance, Leaf}
 use Rattle.def_tree.specs.declared.Node.{Node}
@@ -10,18 +9,15 @@ use Rattle.def_game_paths.specs.Paths.{visits}
 use Rattle.def_game_paths.proofs.Visits.{map-visits_from}
 use Rattle.def_game_paths.proofs.Order.{visited_node}
 use Rattle.def_game_scale.specs.Tables.{probabilities}
-use Rattle.def_game_scale.specs.Faults.{GameFault, game_fault}
+use Rattle.def_game_scale.specs.Faults.{game_fault}
 use Rattle.def_game_scale.proofs.Sound.{sound}
 use Rattle.def_file.specs.Content.{GameFile, sets_of_kind}
 use Rattle.def_file.specs.Faults.{no_set}
 use Rattle.def_file.specs.Game.{GoesWith, IsInSet, chances_of}
-use Rattle.def_game_numbers.specs.Numbers.{as_file_fault, tables_of}
+use Rattle.def_game_numbers.specs.Numbers.{tables_of}
 use Rattle.def_game_numbers.proofs.Fractions.{tables_lowest}
+use Rattle.def_game_numbers.proofs.WholeSums.{none_found}
 use Rattle.def_constant_sum.specs.Laws.{FaultlessGamesAreComplete}
-
-pub none_found : (o : Option GameFault) → as_file_fault o ≡ None → o ≡ None
-none_found None e = refl
-none_found (Some fault) e = cc
 
 -- each probability of a chance node's set is that of a child
 one_each : (game : GameFile) (node : Node) → node.kind ≡ Chance → GoesWith game.sets game.outcomes node

@@ -17,9 +17,11 @@ use Rattle.def_plan.specs.Payoff.{pay}
 use Rattle.def_sequence_form.specs.Form.{form_of_game}
 use Rattle.def_reply.specs.Bounds.{IsBestAgainst, IsExploitability, IsLeft}
 use Rattle.def_constant_sum.specs.Expected.{ArePlans, IsCompleteGame, expected_payoff}
-use Rattle.def_constant_sum.specs.Bounds.{IsAtMost, IsBestPayoff, IsGainOfBoth, IsPlanFor, IsSureOf, difference_of}
+use Rattle.def_fraction.specs.Order.{IsAtMost, difference_of}
+use Rattle.def_constant_sum.specs.Bounds.{IsBestPayoff, IsGainOfBoth, IsPlanFor, IsSureOf}
 use Rattle.def_constant_sum.specs.Laws.{BestPayoffsInWeights, ExploitabilityIsGained, IsConstantGame}
-use Rattle.def_constant_sum.proofs.Times.{IsTimes, difference-lowest, same-both_ways, swap-first, times-difference, times-order, times-reduced, times-same, times-scaled, times-sum}
+use Rattle.def_constant_sum.proofs.Times.{IsTimes, difference-lowest, same-both_ways, swap-first, times-difference, times-order, times-reduced, times-same}
+use Rattle.def_constant_sum.proofs.Times.{times-scaled, times-sum}
 use Rattle.def_constant_sum.proofs.Payments.{expected_payoff-lowest, given-lowest, given-scaled, paid-times, scale, scale_some, two-left, two-times, unit_some}
 use Rattle.def_constant_sum.proofs.Turning.{each_bounds_the_other}
 

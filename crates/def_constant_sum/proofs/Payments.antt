@@ -22,18 +22,20 @@ use Rattle.def_game_scale.proofs.Weights.{whole-sum}
 use Rattle.def_plan.specs.Payoff.{pay}
 use Rattle.def_sequence_form.specs.Form.{form_of_game, leaves_with}
 use Rattle.def_constant_sum.specs.Expected.{ArePlans, IsCompleteGame, expected_payoff, leaf_probability, numbers_at, payoff_of}
-use Rattle.def_constant_sum.specs.Bounds.{difference_of}
+use Rattle.def_fraction.specs.Order.{difference_of}
 use Rattle.def_constant_sum.specs.Laws.{PayTheSum}
 use Rattle.def_constant_sum.proofs.Lowest.{payoff_of-lowest, product-lowest, reach-lowest}
-use Rattle.def_constant_sum.proofs.Times.{IsTimes, product-swapped, rest-of_sum, sum-lowest, times-difference, times-product, times-same, times-scaled, times-sum, times-sum_over}
-use Rattle.def_constant_sum.proofs.Splits.{all-behind, all-front}
-use Rattle.def_constant_sum.proofs.Probabilities.{all_units, all_units_some, dealt_at, dealt_sum, part, part-lowest, part-times, probabilities-times, probability-lowest, roots_some}
+use Rattle.def_constant_sum.proofs.Times.{IsTimes, product-swapped, rest-of_sum, sum-lowest, times-difference, times-product, times-same, times-scaled}
+use Rattle.def_constant_sum.proofs.Times.{times-sum, times-sum_over}
+use Rattle.def_tree.proofs.Fronts.{All-behind, All-front}
+use Rattle.def_constant_sum.proofs.Probabilities.{all_units, all_units_some, dealt_at, dealt_sum, part, part-lowest, part-times, probabilities-times}
+use Rattle.def_constant_sum.proofs.Probabilities.{probability-lowest, roots_some}
 
 pub unit_some : (tables : Tables) (tree : Forest) → IsCompleteGame tables tree → 1 ≤ game_unit tables tree
 unit_some tables tree game = unit-positive (all_fractions tables tree) (fractions-lowest tables tree game.fractions)
 
 -- what is paid in weights, leaf by leaf
-pay_along : (tables : Tables) (tree : Forest) (x y : List ℕ) (unit : ℕ) (vs : List Visit)
+pub pay_along : (tables : Tables) (tree : Forest) (x y : List ℕ) (unit : ℕ) (vs : List Visit)
     → pay (leaves_with tree vs (map (weight_of unit) (map (expected tables) vs))) x y
     ≡ sum_over (λ v. weight_of unit (expected tables v) *ℤ pos (numbers_at tree x y v)) vs
 pay_along tables tree x y unit [] = refl
@@ -112,8 +114,8 @@ module _ (tables : Tables) (tree : Forest) (game : IsCompleteGame tables tree) (
       All-append IsInLowestTerms (map (payoff_of One tables) (leaf_visits tree)) (map (payoff_of Two tables) (leaf_visits tree)) (each One) (each Two)
 
   payoffs_divide : (player : Player) → All (λ f. f.den ∣ payoff_unit) (map (payoff_of player tables) (leaf_visits tree))
-  payoffs_divide One = all-front (λ (f : Fraction). f.den ∣ payoff_unit) (map (payoff_of One tables) (leaf_visits tree)) (map (payoff_of Two tables) (leaf_visits tree)) (den-divides all_payoffs payoffs_lowest)
-  payoffs_divide Two = all-behind (λ (f : Fraction). f.den ∣ payoff_unit) (map (payoff_of One tables) (leaf_visits tree)) (map (payoff_of Two tables) (leaf_visits tree)) (den-divides all_payoffs payoffs_lowest)
+  payoffs_divide One = All-front (λ (f : Fraction). f.den ∣ payoff_unit) (map (payoff_of One tables) (leaf_visits tree)) (map (payoff_of Two tables) (leaf_visits tree)) (den-divides all_payoffs payoffs_lowest)
+  payoffs_divide Two = All-behind (λ (f : Fraction). f.den ∣ payoff_unit) (map (payoff_of One tables) (leaf_visits tree)) (map (payoff_of Two tables) (leaf_visits tree)) (den-divides all_payoffs payoffs_lowest)
 
   abbrev whole_payoff : Player → Visit → ℤ
   whole_payoff player v = weight_of payoff_unit (payoff_of player tables v)

@@ -1,5 +1,5 @@
 -- A number at each path that is the sum of those at the children: the leaves' numbers add up to the root's.
-use Rattle.std.proofs.Common.{◌≡◌, ℕ, ◌+◌, Bool, true, false, cond, List, [], ◌∷◌, ◌++◌, refl, ap, sym, ◌∙◌}
+use Rattle.std.proofs.Common.{◌≡◌, ℕ, ◌+◌, Bool, true, false, cond, List, ◌∷◌, ◌++◌, refl, ap, sym, ◌∙◌}
 use Rattle.std.specs.Prelude.{ℤ, pos, ◌+ℤ◌, All}
 use Rattle.std.specs.List.{range_with_len}
 use Rattle.std.proofs.lemmas.List.Elements.{All-cons, All-head, All-nil, All-tail}
@@ -7,15 +7,8 @@ use Rattle.def_sums.specs.Sum.{sum_over}
 use Rattle.def_sums.proofs.RingLaws.{+ℤ_assoc, +ℤ-zero, zero-+ℤ}
 use Rattle.def_sums.proofs.SumLaws.{sum_over-append}
 use Rattle.def_tree.specs.Tree.{Forest, bare, grown, tree_count, HasItsChildren}
+use Rattle.def_tree.proofs.Fronts.{All-behind, All-front}
 use Rattle.def_game_paths.specs.Paths.{Move, Visit, is_leaf, visits_from}
-
-pub all-front : {X : Type 0} (P : X → Type 0) (xs ys : List X) → All P (xs ++ ys) → All P xs
-all-front P [] ys all = All-nil P
-all-front P (x ∷ xs) ys all = All-cons P x xs (All-head P x (xs ++ ys) all) (all-front P xs ys (All-tail P x (xs ++ ys) all))
-
-pub all-behind : {X : Type 0} (P : X → Type 0) (xs ys : List X) → All P (xs ++ ys) → All P ys
-all-behind P [] ys all = all
-all-behind P (x ∷ xs) ys all = all-behind P xs ys (All-tail P x (xs ++ ys) all)
 
 -- the path that goes on from a node by an action
 abbrev pub onward : Visit → ℕ → List Move
@@ -38,7 +31,7 @@ roots_all P above action (grown node below beside) all =
     let later : List Visit = visits_from above (action + 1) beside in
     let At : Visit → Type 0 = λ w. P w.path in
     All-cons (λ a. P (above a)) action (range_with_len (action + 1) (tree_count beside)) (All-head At v (under ++ later) all)
-    (roots_all P above (action + 1) beside (all-behind At under later (All-tail At v (under ++ later) all)))
+    (roots_all P above (action + 1) beside (All-behind At under later (All-tail At v (under ++ later) all)))
 
 module _ (number : List Move → ℤ) (Has : List Move → Type 0) where
   abbrev pub at_leaf : Visit → ℤ
@@ -67,14 +60,14 @@ module _ (number : List Move → ℤ) (Has : List Move → Type 0) where
       let S : Visit → Type 0 = Splits number Has in
       let all_rest = All-tail At v (under ++ later) all in
       let splits_rest = All-tail S v (under ++ later) splits in
-      let all_under = all-front At under later all_rest in
+      let all_under = All-front At under later all_rest in
       let count : tree_count below ≡ node.children = children.0 in
       let sum_under : sum_over at_leaf under ≡ sum_over (λ a. number (onward v a)) (range_with_len 1 node.children) =
-      forest_sum down 1 below children.1 all_under (all-front S under later splits_rest) ∙ ap (λ n. sum_over (λ a. number (onward v a)) (range_with_len 1 n)) count in
+      forest_sum down 1 below children.1 all_under (All-front S under later splits_rest) ∙ ap (λ n. sum_over (λ a. number (onward v a)) (range_with_len 1 n)) count in
       let roots : All (λ a. Has (onward v a)) (range_with_len 1 node.children) = rw count at (roots_all Has down 1 below all_under) in
       let here : at_leaf v +ℤ sum_over at_leaf under ≡ number (above action) =
       node_sum v (is_leaf v) (sum_over at_leaf under) refl (All-head S v (under ++ later) splits) (All-head At v (under ++ later) all) roots sum_under in
       ap (λ z. at_leaf v +ℤ z) (sum_over-append at_leaf under later)
       ∙ sym (+ℤ_assoc (at_leaf v) (sum_over at_leaf under) (sum_over at_leaf later))
       ∙ ap (λ z. z +ℤ sum_over at_leaf later) here
-      ∙ ap (λ z. number (above action) +ℤ z) (forest_sum above (action + 1) beside children.2 (all-behind At under later all_rest) (all-behind S under later splits_rest))
+      ∙ ap (λ z. number (above action) +ℤ z) (forest_sum above (action + 1) beside children.2 (All-behind At under later all_rest) (All-behind S under later splits_rest))

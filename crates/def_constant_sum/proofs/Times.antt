@@ -13,7 +13,7 @@ use Rattle.def_fraction.proofs.FractionLemmas.{fraction_of-reduced, same_from_va
 use Rattle.def_game_scale.proofs.Expected.{lowest-sum}
 use Rattle.def_constant_sum.specs.Expected.{fraction_sum}
 use Rattle.def_constant_sum.proofs.Lowest.{product-lowest}
-use Rattle.def_constant_sum.specs.Bounds.{IsAtMost, difference_of}
+use Rattle.def_fraction.specs.Order.{IsAtMost, difference_of}
 
 -- w is c times the fraction
 abbrev pub IsTimes : ℤ → Fraction → ℤ → Type 0

@@ -12,7 +12,8 @@ use Rattle.def_game_scale.specs.Scale.{game_unit}
 use Rattle.def_plan.specs.Payoff.{pay}
 use Rattle.def_sequence_form.specs.Form.{form_of_game}
 use Rattle.def_constant_sum.specs.Expected.{ArePlans, IsCompleteGame, expected_payoff}
-use Rattle.def_constant_sum.specs.Bounds.{IsAtMost, IsPlanFor, payoff_by}
+use Rattle.def_fraction.specs.Order.{IsAtMost}
+use Rattle.def_constant_sum.specs.Bounds.{IsPlanFor, payoff_by}
 use Rattle.def_constant_sum.specs.Laws.{BoundsInWeights, EachBoundsTheOther}
 use Rattle.def_constant_sum.proofs.Times.{Turns, least-times, most-times, sum-swapped, turned}
 use Rattle.def_constant_sum.proofs.Payments.{expected_payoff-lowest, given-lowest, paid-times, scale, scale_some, together}

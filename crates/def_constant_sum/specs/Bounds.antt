@@ -1,14 +1,14 @@
 -- What a plan is sure of, in expected payoffs, and what it keeps the other player to (von Neumann and Morgenstern 1944).
---     IsAtMost f g                             f is at most g
 --     IsSureOf player tables tree plan f       the player's plan is expected to get at least f against each plan
 --     KeepsTo player tables tree plan f        against it no plan of the other player is expected to get more than f
 --     IsBestPayoff player tables tree plan f   the best that the player is expected to get against the other's plan
-use Rattle.std.specs.Prelude.{◌≡◌, ℕ, ◌*◌, List, ℤ, pos, ◌*ℤ◌, ◌≤ℤ◌, neg_ℤ}
+use Rattle.std.specs.Prelude.{◌≡◌, ℕ, ◌*◌, List, ℤ, pos, ◌*ℤ◌, ◌≤ℤ◌}
 use Rattle.def_tree.specs.declared.Player.{Player}
 use Rattle.def_tree.specs.declared.Player.TheVariants.{One, Two}
 use Rattle.def_tree.specs.Opponent.{opponent}
 use Rattle.def_tree.specs.Tree.{Forest}
-use Rattle.def_fraction.specs.Fraction.{Fraction, fraction_of, over, sum_of}
+use Rattle.def_fraction.specs.Fraction.{Fraction, fraction_of, sum_of}
+use Rattle.def_fraction.specs.Order.{IsAtMost, difference_of}
 use Rattle.def_game_scale.specs.Tables.{Tables, game_sum}
 use Rattle.def_game_scale.specs.Scale.{game_unit}
 use Rattle.def_plan.specs.Form.{player_sets}
@@ -16,14 +16,6 @@ use Rattle.def_plan.specs.Plan.{IsPlan}
 use Rattle.def_plan.specs.Payoff.{pay}
 use Rattle.def_sequence_form.specs.Form.{form_of_game}
 use Rattle.def_constant_sum.specs.Expected.{expected_payoff}
-
--- the value of f is at most that of g
-abbrev pub IsAtMost : Fraction → Fraction → Type 0
-IsAtMost f g = (f.num *ℤ pos g.den) ≤ℤ (g.num *ℤ pos f.den)
-
--- f less g
-abbrev pub difference_of : Fraction → Fraction → Fraction
-difference_of f g = sum_of f (over (neg_ℤ g.num) g.den)
 
 -- what a player is expected to get, by the plan of a player, whose own it is, and a plan of the other one
 abbrev pub payoff_by : Player → Player → Tables → Forest → List ℕ → List ℕ → Fraction

@@ -15,7 +15,9 @@ use Rattle.def_sequence_form.specs.Form.{form_of_game}
 use Rattle.def_reply.specs.Bounds.{IsBestAgainst, IsExploitability, IsLeft}
 use Rattle.def_game_numbers.specs.Numbers.{game_file_fault, tables_of}
 use Rattle.def_constant_sum.specs.Expected.{ArePlans, IsCompleteGame, expected_payoff, fraction_sum, leaf_probability}
-use Rattle.def_constant_sum.specs.Bounds.{ConcedesInWeights, GetsInWeights, IsBestPayoff, IsGainOfBoth, IsPlanFor, IsSureOf, KeepsTo, difference_of}
+use Rattle.def_fraction.specs.Order.{difference_of}
+use Rattle.def_constant_sum.specs.Bounds.{ConcedesInWeights, GetsInWeights, IsBestPayoff, IsGainOfBoth, IsPlanFor}
+use Rattle.def_constant_sum.specs.Bounds.{IsSureOf, KeepsTo}
 
 -- a complete game of constant sum
 pub record IsConstantGame (tables : Tables) (tree : Forest) : Type 0 where

@@ -7,7 +7,7 @@ use Rattle.def_game_paths.specs.Paths.{leaf_visits}
 use Rattle.def_game_scale.specs.Tables.{Tables, game_sum}
 use Rattle.def_game_scale.specs.Rows.{uneven}
 use Rattle.def_constant_sum.specs.Expected.{expected_payoff, leaf_probability}
-use Rattle.def_constant_sum.specs.Bounds.{difference_of}
+use Rattle.def_fraction.specs.Order.{difference_of}
 
 -- matching pennies for one coin, which player one gets where both pennies match, and player two where they don't
 abbrev pub coin_tables : Tables
@@ -29,7 +29,7 @@ abbrev heads : List ℕ
 heads = 1 ∷ 1 ∷ 0 ∷ []
 
 -- heads once in three times
-abbrev mostly_tails : List ℕ
+abbrev pub mostly_tails : List ℕ
 mostly_tails = 3 ∷ 1 ∷ 2 ∷ []
 
 -- the plan of a player without sets

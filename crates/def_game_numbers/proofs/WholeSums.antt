@@ -15,11 +15,15 @@ use Rattle.def_game_numbers.specs.Numbers.{as_file_fault, tables_of}
 use Rattle.def_game_numbers.specs.WholeSums.{FaultlessGamesHaveWholeSums}
 use Rattle.def_game_numbers.proofs.Fractions.{tables_lowest}
 
+pub none_found : (o : Option GameFault) → as_file_fault o ≡ None → o ≡ None
+none_found None e = refl
+none_found (Some fault) e = cc
+
 pub whole_sums : FaultlessGamesHaveWholeSums
 whole_sums game is =
     let tables = tables_of game in
     let lowest = tables_lowest game is.fractions in
-    let numbers = (sound tables game.tree lowest (no_game_fault (game_fault tables game.tree) is.no_fault)).numbers in
+    let numbers = (sound tables game.tree lowest (none_found (game_fault tables game.tree) is.no_fault)).numbers in
     let unit : ℕ = game_unit tables game.tree in
     let sum : Fraction = game_sum tables game.tree in
     let divides : sum.den ∣ unit = All-head (λ (f : Fraction). f.den ∣ unit) sum (all_expected tables game.tree)
@@ -27,7 +31,3 @@ whole_sums game is =
     let size : unsigned_abs (weight_of unit sum) * sum.den ≡ unsigned_abs sum.num * unit =
     sym (unsigned_abs-mul (weight_of unit sum) (pos sum.den)) ∙ ap unsigned_abs (whole-weight unit sum divides) ∙ unsigned_abs-mul sum.num (pos unit) in
     record { whole = divides; small = omega (arith, size, mul-le-mul_right sum.den numbers.whole_sum_within) }
-  where
-    no_game_fault : (o : Option GameFault) → as_file_fault o ≡ None → o ≡ None
-    no_game_fault None e = refl
-    no_game_fault (Some fault) e = cc

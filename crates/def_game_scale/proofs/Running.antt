@@ -9,6 +9,7 @@ use Rattle.std.proofs.lemmas.List.Elements.{All-append, All-cons, All-head, All-
 use Rattle.std.proofs.lemmas.List.Sums.{sum_by-append}
 use Rattle.std.proofs.lemmas.Nat.Gcd.{dvd_antisymm, dvd_refl, dvd_trans}
 use Rattle.std.proofs.Math.Nat.{one-dvd}
+use Rattle.def_tree.proofs.Fronts.{All-behind, All-front}
 use Rattle.def_fraction.specs.Divisors.{gcd, lcm}
 use Rattle.def_fraction.specs.Fraction.{Fraction, IsInLowestTerms}
 use Rattle.def_fraction.proofs.DivisorLemmas.{IsLcm-lcm}
@@ -33,15 +34,7 @@ unit-snoc fs f low last =
     (unit-divides all m all_low (All-append (Divides m) fs (f ∷ [])
     (All-weaker (Divides (unit_of fs)) (Divides m) (λ x divides. dvd_trans x.den divides least.second_divides) fs (den-divides fs low))
     (All-cons (Divides m) f [] least.first_divides (All-nil (Divides m)))))
-    (least.least (unit_of all) (All-head (Divides (unit_of all)) f [] (All-behind (Divides (unit_of all)) fs (f ∷ []) dens)) (unit-divides fs (unit_of all) low (All-before (Divides (unit_of all)) fs (f ∷ []) dens)))
-  where
-    All-before : (P : Fraction → Type 0) (xs ys : List Fraction) → All P (xs ++ ys) → All P xs
-    All-before P [] ys h = All-nil P
-    All-before P (x ∷ xs) ys h = All-cons P x xs (All-head P x (xs ++ ys) h) (All-before P xs ys (All-tail P x (xs ++ ys) h))
-
-    All-behind : (P : Fraction → Type 0) (xs ys : List Fraction) → All P (xs ++ ys) → All P ys
-    All-behind P [] ys h = h
-    All-behind P (x ∷ xs) ys h = All-behind P xs ys (All-tail P x (xs ++ ys) h)
+    (least.least (unit_of all) (All-head (Divides (unit_of all)) f [] (All-behind (Divides (unit_of all)) fs (f ∷ []) dens)) (unit-divides fs (unit_of all) low (All-front (Divides (unit_of all)) fs (f ∷ []) dens)))
 
 expected_at-lowest : (tables : Tables) (vs : List Visit) → AreFractions tables
     → All IsInLowestTerms (expected_at tables vs)

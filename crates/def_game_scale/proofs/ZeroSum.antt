@@ -21,7 +21,7 @@ unit-of_zero : (f : Fraction) (fs : List Fraction) → f ≡ zero_fraction → u
 unit-of_zero f fs zero = ap (λ (g : Fraction). lcm g.den (unit_of fs)) zero ∙ lcm-one (unit_of fs)
 
 -- where all leaves pay nothing together, so does the first
-first-zero : (tables : Tables) (vs : List Visit) → All (λ v. paid_together tables v ≡ zero_fraction) vs
+pub first-zero : (tables : Tables) (vs : List Visit) → All (λ v. paid_together tables v ≡ zero_fraction) vs
     → first_sum tables vs ≡ zero_fraction
 first-zero tables [] h = refl
 first-zero tables (v ∷ vs) h = All-head (λ w. paid_together tables w ≡ zero_fraction) v vs h

@@ -1,3 +1,2 @@
-pub mod HasLeaf
 pub mod OneValue
 pub mod RowRange

@@ -1,5 +1,6 @@
 -- How large the numbers of a plan and the leaf sums against it are.
-use Rattle.std.proofs.Common.{◌≡◌, ℕ, zero, suc, ◌+◌, ◌*◌, ◌^◌, ◌≤◌, ◌<◌, eqb, List, [], ◌∷◌, slice_index, get_or, filter, All, ℤ, pos, ◌*ℤ◌, unsigned_abs, arith, ap, ⊎_elim}
+use Rattle.std.proofs.Common.{◌≡◌, ℕ, zero, suc, ◌+◌, ◌*◌, ◌^◌, ◌≤◌, ◌<◌, eqb, List, [], ◌∷◌, slice_index, get_or, filter, All, ℤ, pos, ◌*ℤ◌, unsigned_abs}
+use Rattle.std.proofs.Common.{arith, ap, ⊎_elim}
 use Rattle.std.proofs.Math.Nat.{mul-le-mul, mul-le-mul_left}
 use Rattle.std.proofs.lemmas.Int.{unsigned_abs-mul}
 use Rattle.std.proofs.lemmas.Bool.{cases_lt}
@@ -46,8 +47,8 @@ plan-below_root sets root x order p s =
     (λ past. omega (arith, get_or_past x s 0 (omega (arith, p.all_sequences))))
     (cases_lt s (sequence_count sets))
 
-term : (w : ℤ) (n root : ℕ) → n ≤ root → unsigned_abs (w *ℤ pos n) ≤ unsigned_abs w * root
-term w n root h = omega (arith, unsigned_abs-mul w (pos n), mul-le-mul_left (unsigned_abs w) h)
+pub one_leaf : (w : ℤ) (n root : ℕ) → n ≤ root → unsigned_abs (w *ℤ pos n) ≤ unsigned_abs w * root
+one_leaf w n root h = omega (arith, unsigned_abs-mul w (pos n), mul-le-mul_left (unsigned_abs w) h)
 
 -- the leaf sums against a plan are together at most the leaves' mass times the plan's root
 pub leaf_sums-below : (player : Player) (leaves : List Leaf) (sets against_sets : List InformationSet) (root : ℕ)
@@ -64,7 +65,7 @@ leaf_sums-below player leaves sets against_sets root x order p =
       arith,
       unsigned_abs-sum_over amount kept,
       nat_sum_over-mono (λ z. unsigned_abs (amount z)) size kept
-          (λ k d low. let z : Leaf = get_or kept k d in term z.weight (slice_index x (leaf_sequence (opponent player) z)) root (plan-below_root against_sets root x order p (leaf_sequence (opponent player) z))),
+          (λ k d low. let z : Leaf = get_or kept k d in one_leaf z.weight (slice_index x (leaf_sequence (opponent player) z)) root (plan-below_root against_sets root x order p (leaf_sequence (opponent player) z))),
     )
     in
     omega (

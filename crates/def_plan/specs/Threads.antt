@@ -1,10 +1,13 @@
 -- The leaves of a form by sequences: of each sequence of a player the first leaf that has it, and after each leaf the
 -- next one with the same own sequence. Leaves are numbered from 1, in their order. A leaf has one sequence of each
 -- player, the last one on its path, and that is the empty one where the player made no choice.
-use Rattle.std.specs.Prelude.{◌≡◌, ℕ, ◌+◌, ◌-◌, ◌<◌, ◌≤◌, ◌↔◌, List, [], ◌∷◌, length, map, filter, zip, drop, slice_index, slice_get, Contains, ◌==◌, if◌then◌else◌, Option, Some, None}
+use Rattle.std.specs.Prelude.{◌≡◌, ℕ, ◌+◌, ◌-◌, ◌<◌, ◌≤◌, ◌↔◌, ℤ, pos, ◌*ℤ◌, List, [], ◌∷◌, length, map, filter, zip}
+use Rattle.std.specs.Prelude.{drop}
+use Rattle.std.specs.Prelude.{slice_index, slice_get, Contains, ◌==◌, if◌then◌else◌, Option, Some, None}
 use Rattle.std.specs.List.{range_with_len}
 use Rattle.std.specs.List.Sorted.{IsStrictlyIncreasing}
 use Rattle.def_tree.specs.declared.Player.{Player}
+use Rattle.def_tree.specs.Opponent.{opponent}
 use Rattle.def_plan.specs.Form.{Leaf, leaf_sequence}
 
 -- the number of the first of these leaves that has the sequence, where the first of all has the number z
@@ -19,6 +22,10 @@ first_leaf player sequence leaves = first_leaf_from player sequence 1 leaves
 -- the player's sequence at leaf z
 abbrev pub sequence_of_leaf : Player → ℕ → List Leaf → ℕ
 sequence_of_leaf player z leaves = slice_index (map (leaf_sequence player) leaves) (z - 1)
+
+-- what a leaf brings to its own sequence of the player: its weight times the other player's number
+abbrev pub paid_at_leaf : Player → List ℕ → Leaf → ℤ
+paid_at_leaf player against z = z.weight *ℤ pos (slice_index against (leaf_sequence (opponent player) z))
 
 -- the first leaf after leaf z that has the player's sequence at z
 abbrev pub next_leaf : Player → ℕ → List Leaf → Option ℕ

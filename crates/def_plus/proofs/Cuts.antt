@@ -37,7 +37,7 @@ not_negative-cut regrets s =
     omega (arith, ints, clamps, regret_of-cut regrets s)
 
 -- ---- what is played next
-same_part : (r : ℤ) → positive_part (int_max (pos 0) r) ≡ positive_part r
+pub same_part : (r : ℤ) → positive_part (int_max (pos 0) r) ≡ positive_part r
 same_part (pos n) = ap positive_part (is_same (pos n) (omega (arith, ints)))
 same_part (negsuc n) = ap positive_part (is_zero (negsuc n) (omega (arith, ints)))
 

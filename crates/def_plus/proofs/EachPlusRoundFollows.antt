@@ -6,9 +6,9 @@ use Rattle.def_plan.specs.Form.{InformationSet, sequence_count, AreInOrder, Sequ
 use Rattle.def_round.specs.Play.{play_of, plan_of_play}
 use Rattle.def_round.specs.Round.{own_sum, regrets_after}
 use Rattle.def_round.specs.Rounds.{Standing}
-use Rattle.def_round.specs.Laws.{IsPlanOfPlay}
-use Rattle.def_round.proofs.Plays.{plays_each_set, plays_deal_plans, plays_deal_by_shares}
+use Rattle.def_round.proofs.Plays.{plays_each_set}
 use Rattle.def_round.proofs.Regrets.{rounds_are_computed}
+use Rattle.def_round.proofs.EachRoundFollows.{deals}
 use Rattle.def_plus.specs.Cut.{cut}
 use Rattle.def_plus.specs.Multiple.{added_times}
 use Rattle.def_plus.specs.Weights.{total_weight}
@@ -25,10 +25,6 @@ grows sets regrets root weight before order some long =
     let plan : List ℕ = plan_of_play sets (play_of sets regrets) root in
     let same : length before ≡ length plan = long ∙ sym (next_plan-is sets regrets root order some).all_sequences in
     record { all_sequences = length-added_times before plan weight same; each_number = λ s. at-added_times before plan weight s same }
-
-deals : (sets : List InformationSet) (play : List ℕ) (root : ℕ) → AreInOrder sets → 1 ≤ root
-    → IsPlanOfPlay sets play root (plan_of_play sets play root)
-deals sets play root order some = record { is_plan = plays_deal_plans sets play root order some; each_set = plays_deal_by_shares sets play root order }
 
 cuts : (sums : ℕ → ℤ) (play : List ℕ) (sets : List InformationSet) (before : List ℤ) → AreInOrder sets
     → IsCutRound sums play sets before (cut (regrets_after sums play sets before))

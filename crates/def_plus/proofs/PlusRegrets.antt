@@ -21,7 +21,7 @@ use Rattle.def_plus.specs.RoundLaws.{PlusRegretsAreNotNegative, PlusRegretsAreSm
 use Rattle.def_plus.proofs.Cuts.{not_negative-cut, size-cut}
 use Rattle.def_plus.proofs.PlusSums.{next_plan-is}
 
-none_yet : (n s : ℕ) → regret_of (replicate n (pos 0)) s ≡ pos 0
+pub none_yet : (n s : ℕ) → regret_of (replicate n (pos 0)) s ≡ pos 0
 none_yet zero zero = refl
 none_yet zero (suc s) = refl
 none_yet (suc n) zero = refl

@@ -80,7 +80,7 @@ pub length-sum : (sets : List InformationSet) (root : ℕ) (sum : List ℕ) → 
 length-sum sets root sum is = (cleared_plans_add_nothing.root sets root sum is).0
 
 -- ---- the plans in the sums
-zeros : (n s : ℕ) → slice_index (replicate n 0) s ≡ 0
+pub zeros : (n s : ℕ) → slice_index (replicate n 0) s ≡ 0
 zeros zero zero = refl
 zeros zero (suc s) = refl
 zeros (suc n) zero = refl

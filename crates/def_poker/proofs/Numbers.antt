@@ -1,5 +1,6 @@
 -- One-card poker passes each walk over its numbers, and both players remember their choices.
-use Rattle.std.proofs.Common.{◌≡◌, ℕ, suc, ◌+◌, ◌-◌, ◌*◌, ◌/◌, ◌≤◌, Bool, true, false, cond, List, [], ◌∷◌, ◌++◌, get_or, length, map, refl, sym, ap, ◌∙◌, subst, arith, le_trans, mul-le-mul, div-le_self}
+use Rattle.std.proofs.Common.{◌≡◌, ℕ, suc, ◌+◌, ◌-◌, ◌*◌, ◌/◌, ◌≤◌, Bool, true, false, cond, List, [], ◌∷◌, ◌++◌, get_or, length, map, refl, sym, ap, ◌∙◌}
+use Rattle.std.proofs.Common.{subst, arith, le_trans, mul-le-mul, div-le_self}
 use Rattle.std.specs.Prelude.{pos, ◌≤ℤ◌, unsigned_abs, filter, sum, All}
 use Prim.Native.Nat.{◌∣◌}
 use Rattle.std.proofs.lemmas.List.{length-append, length-map}
@@ -9,15 +10,17 @@ use Rattle.std.proofs.lemmas.Int.{ints, unsigned_abs-mul}
 use Rattle.std.proofs.lemmas.Nat.Gcd.{le_of_dvd}
 use Rattle.std.proofs.Math.Nat.{one-dvd, one-le-mul}
 use Rattle.def_tree.specs.Tree.{Forest}
+use Rattle.def_tree.proofs.Fronts.{All-behind, All-front}
 use Rattle.def_fraction.specs.Divisors.{gcd}
 use Rattle.def_fraction.specs.Fraction.{Fraction, IsInLowestTerms, fits, fraction_of, sum_of, zero_fraction}
 use Rattle.def_game_paths.specs.Paths.{Visit, is_leaf, visits}
 use Rattle.def_game_paths.specs.Recall.{HasPerfectRecall, is_personal}
-use Rattle.def_game_scale.specs.Tables.{AreFractions, Tables, first_sum, paid_together, payoff_one, payoff_two, probabilities, reach}
+use Rattle.def_game_scale.specs.Tables.{AreFractions, paid_together, payoff_one, payoff_two, probabilities, reach}
 use Rattle.def_game_scale.specs.Scale.{expected, expected_at, game_unit, sum_so_far, unit_so_far, weight_of, whole_sum}
 use Rattle.def_game_scale.specs.First.{EachPasses, MassPasses, NodePasses, PassNumbers, PathFits, SignsPass, SumsPass, WholeSumPasses}
 use Rattle.def_game_scale.proofs.Expected.{expected-lowest, first-lowest}
 use Rattle.def_game_scale.proofs.Units.{unit-divides}
+use Rattle.def_game_scale.proofs.ZeroSum.{first-zero}
 use Rattle.def_poker.proofs.Parts.{IsPart, part_fits, product_part}
 use Rattle.def_poker.proofs.Chances.{AreEach, chances_pass}
 use Rattle.def_poker.proofs.Visits.{Good, Prize, nobody, one_gets_one, one_gets_two, pairs, past_at, prize_pair, told, two_gets_one, two_gets_two}
@@ -69,20 +72,12 @@ two_fits one_gets_two = refl
 two_fits two_gets_two = refl
 
 -- ---- lists
-before_all : {X : Type 0} (P : X → Type 0) (xs ys : List X) → All P (xs ++ ys) → All P xs
-before_all P [] ys h = All-nil P
-before_all P (x ∷ xs) ys h = All-cons P x xs (All-head P x (xs ++ ys) h) (before_all P xs ys (All-tail P x (xs ++ ys) h))
-
-behind_all : {X : Type 0} (P : X → Type 0) (xs ys : List X) → All P (xs ++ ys) → All P ys
-behind_all P [] ys h = h
-behind_all P (x ∷ xs) ys h = behind_all P xs ys (All-tail P x (xs ++ ys) h)
-
 -- what holds of each holds of one, and of those up to it
 at_place : {X : Type 0} (P : X → Type 0) (all before : List X) (x : X) (after : List X) → all ≡ before ++ x ∷ after → All P all → P x
-at_place P all before x after place h = All-head P x after (behind_all P before (x ∷ after) (subst (All P) place h))
+at_place P all before x after place h = All-head P x after (All-behind P before (x ∷ after) (subst (All P) place h))
 
 up_to : {X : Type 0} (P : X → Type 0) (all before : List X) (x : X) (after : List X) → all ≡ before ++ x ∷ after → All P all → All P (before ++ x ∷ [])
-up_to P all before x after place h = before_all P (before ++ x ∷ []) after (subst (All P) (place ∙ joined before) h)
+up_to P all before x after place h = All-front P (before ++ x ∷ []) after (subst (All P) (place ∙ joined before) h)
   where
     joined : (ys : List _) → ys ++ x ∷ after ≡ (ys ++ x ∷ []) ++ after
     joined [] = refl
@@ -100,10 +95,6 @@ short_filter p (x ∷ xs) = chosen (p x) (short_filter p xs)
     chosen : (b : Bool) → length (filter p xs) ≤ length xs → length (cond b (x ∷ filter p xs) (filter p xs)) ≤ suc (length xs)
     chosen true h = omega (arith, h)
     chosen false h = omega (arith, h)
-
-first_nothing : (tables : Tables) (vs : List Visit) → All (λ v. paid_together tables v ≡ zero_fraction) vs → first_sum tables vs ≡ zero_fraction
-first_nothing tables [] h = refl
-first_nothing tables (v ∷ vs) h = All-head (λ v. paid_together tables v ≡ zero_fraction) v vs h
 
 small_mass : (unit : ℕ) (fs : List Fraction) → unit ≤ 4032 → All (λ f. unsigned_abs f.num ≤ 2) fs
     → sum (map unsigned_abs (map (weight_of unit) fs)) ≤ 8064 * length fs
@@ -152,7 +143,7 @@ module _ (n : ℕ) (least : 2 ≤ n) (limit : n ≤ 64) (lowest : AreFractions (
 
   sum_nothing : (vs : List Visit) → All (Good n) vs → sum_so_far (told n) vs ≡ zero_fraction
   sum_nothing vs h =
-      first_nothing (told n) (filter is_leaf vs)
+      first-zero (told n) (filter is_leaf vs)
       (All-filter is_leaf (λ v. paid_together (told n) v ≡ zero_fraction) vs
       (All-weaker (Good n) (λ v. paid_together (told n) v ≡ zero_fraction) pays_nothing vs h))
 

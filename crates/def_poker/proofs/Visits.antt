@@ -2,7 +2,7 @@
 use Rattle.std.proofs.Common.{◌≡◌, ℕ, zero, suc, ◌+◌, ◌-◌, ◌*◌, ◌≤◌, true, false, cond, List, [], ◌∷◌, get_or, length, map, refl, sym, ap, ◌∙◌, subst, arith}
 use Rattle.std.specs.Prelude.{pos, negsuc, nat_le, All}
 use Prim.Native.Nat.{◌∣◌}
-use Rattle.std.proofs.lemmas.Bool.{false_from_ne_true, le-leb, leb-true}
+use Rattle.std.proofs.lemmas.Bool.{le-leb}
 use Rattle.std.proofs.lemmas.List.{length-map}
 use Rattle.std.proofs.lemmas.List.FromFn.{length-range_with_len}
 use Rattle.std.proofs.lemmas.List.Elements.{All-nil, All-cons, All-append}
@@ -25,8 +25,10 @@ use Rattle.def_game_paths.specs.Paths.{Choice, Move, Visit, own_choices, visits,
 use Rattle.def_game_paths.specs.Recall.{is_personal, past}
 use Rattle.def_game_scale.specs.Tables.{PayoffPair, Tables, path_payoff, payoffs_of, probabilities, probability, reach}
 use Rattle.def_canon.specs.Described.{Each}
-use Rattle.def_canon.specs.Poker.{after_bet, after_check, answer, cards, deal_one, deal_two, dealt_card, entries, facing_bet, hand, hands, higher, opening_set, others, rounds_with_cards, wins_one, wins_two}
+use Rattle.def_canon.specs.Poker.{after_bet, after_check, answer, cards, deal_one, deal_two, dealt_card, entries, facing_bet, hand, hands, higher, opening_set}
+use Rattle.def_canon.specs.Poker.{others, rounds_with_cards, wins_one, wins_two}
 use Rattle.def_canon.proofs.Cards.{AreCards, cards_are, others_count}
+use Rattle.def_canon.proofs.Described.{above}
 use Rattle.def_poker.proofs.Parts.{IsPart, no_part, product_part}
 use Rattle.def_poker.proofs.Chances.{AreEach}
 use Rattle.def_poker.proofs.Known.{Known, chances_known, tables_with}
@@ -60,9 +62,6 @@ chance_part k (p ∷ ps) (suc i) some are = chance_part k ps i some are.1
 dealt_each : (k : ℕ) (js : List ℕ) → AreEach k (map (λ a. a.chance) (map (dealt_card k) js))
 dealt_each k [] = tt
 dealt_each k (j ∷ js) = (refl, dealt_each k js)
-
-above_all : (n i : ℕ) → 1 ≤ i → nat_le (n + i) n ≡ false
-above_all n i low = false_from_ne_true _ (λ is. let le : n + i ≤ n = leb-true (n + i) n is in absurd (omega arith))
 
 module _ (n : ℕ) where
   abbrev pub told : Tables
@@ -128,7 +127,7 @@ module _ (n : ℕ) where
   unfolding answer
   past_at_answer i low k =
       let back : n + i - n ≡ i = omega arith in
-      ap (λ e. past_by e.number) (k.set refl) ∙ ap (λ b. cond b [] (answer_past (n + i - n))) (above_all n i low) ∙ ap answer_past back
+      ap (λ e. past_by e.number) (k.set refl) ∙ ap (λ b. cond b [] (answer_past (n + i - n))) (above n i low) ∙ ap answer_past back
 
   -- ---- a node with its path
   pub record Good (v : Visit) : Type 0 where

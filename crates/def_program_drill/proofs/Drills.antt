@@ -1,11 +1,12 @@
 -- `drill` is never refused.
-use Rattle.std.proofs.Common.{◌≡◌, Option, Some, None, refl, sym, ap, ◌∙◌}
+use Rattle.std.proofs.Common.{◌≡◌, Some, sym, ap, ◌∙◌}
 use Rattle.std.proofs.lemmas.Option.{same_Some}
 use Rattle.def_file_form.proofs.WholeGames.{stands_for_whole_game}
 use Rattle.def_game_scale.proofs.First.{game_first}
-use Rattle.def_game_scale.specs.Faults.{GameFault, game_fault}
-use Rattle.def_game_numbers.specs.Numbers.{as_file_fault, tables_of}
+use Rattle.def_game_scale.specs.Faults.{game_fault}
+use Rattle.def_game_numbers.specs.Numbers.{tables_of}
 use Rattle.def_game_numbers.proofs.Fractions.{tables_lowest}
+use Rattle.def_game_numbers.proofs.WholeSums.{none_found}
 use Rattle.def_canon.specs.Canon.{canon}
 use Rattle.def_canon.specs.Poker.{poker}
 use Rattle.def_canon.proofs.Written.{poker_is_read_back}
@@ -19,15 +20,11 @@ use Rattle.def_program.proofs.Meant.{meaning_computed}
 use Rattle.def_program.proofs.Played.{played_games_have_bounds}
 use Rattle.def_program_drill.specs.Drill.{DrillsHaveTheirBounds, DrillsSucceed, PokerIsAccepted}
 
-no_game_fault : (f : Option GameFault) → as_file_fault f ≡ None → f ≡ None
-no_game_fault None e = refl
-no_game_fault (Some fault) e = cc
-
 pub poker_is_accepted : PokerIsAccepted
 poker_is_accepted n least limit =
     let back = poker_is_read_back n least limit in
     let lowest = tables_lowest (poker n) (stands_for_whole_game (canon (poker n)) (poker n) back.0).1 in
-    let none = no_game_fault (game_fault (tables_of (poker n)) (poker n).tree) (poker_has_no_fault n least limit) in
+    let none = none_found (game_fault (tables_of (poker n)) (poker n).tree) (poker_has_no_fault n least limit) in
     let sound = (game_first (tables_of (poker n)) (poker n).tree lowest).none.0 none in
     record { readable = record { length_within = poker_is_short n least limit; stands = back.0 }; numbers = sound.0; recall = sound.1 }
 

@@ -1,14 +1,13 @@
 -- What printed bounds of an accepted file's game say of both players.
 use Rattle.std.proofs.Common.{◌≡◌, ℕ, ◌*◌, ◌≤◌, List, ap, sym, subst, ◌∙◌, arith}
-use Rattle.std.specs.Prelude.{ℤ, pos, ◌+ℤ◌, ◌-ℤ◌, ◌*ℤ◌, ◌≤ℤ◌, neg_ℤ}
+use Rattle.std.specs.Prelude.{ℤ, pos, ◌+ℤ◌, ◌-ℤ◌, ◌*ℤ◌, neg_ℤ}
 use Rattle.std.proofs.lemmas.Int.{ints}
 use Rattle.std.proofs.Math.Nat.{one-le-mul}
-use Rattle.def_sums.proofs.RingLaws.{*ℤ-cancel_right, *ℤ-mono_right, neg-*ℤ}
+use Rattle.def_sums.proofs.RingLaws.{neg-*ℤ}
 use Rattle.def_tree.specs.declared.Player.TheVariants.{One, Two}
 use Rattle.def_tree.specs.Tree.{Forest}
 use Rattle.def_fraction.specs.Fraction.{Fraction, fraction_of}
 use Rattle.def_fraction.proofs.FractionLemmas.{fraction_of-value}
-use Rattle.def_fraction.proofs.OrderLemmas.{times_turned}
 use Rattle.def_file.specs.Content.{GameFile}
 use Rattle.def_game_scale.specs.Tables.{Tables, game_sum}
 use Rattle.def_game_scale.specs.Scale.{game_unit}
@@ -17,7 +16,8 @@ use Rattle.def_reply.specs.Bounds.{IsBestAgainst, IsLeft}
 use Rattle.def_game_numbers.specs.Numbers.{tables_of}
 use Rattle.def_game_numbers.specs.Weighed.{weighed_game}
 use Rattle.def_constant_sum.specs.Expected.{ArePlans, expected_payoff}
-use Rattle.def_constant_sum.specs.Bounds.{IsAtMost, IsBestPayoff, IsPlanFor, IsSureOf, KeepsTo, difference_of}
+use Rattle.def_fraction.specs.Order.{IsAtMost, difference_of}
+use Rattle.def_constant_sum.specs.Bounds.{IsBestPayoff, IsPlanFor, IsSureOf, KeepsTo}
 use Rattle.def_constant_sum.specs.Laws.{IsConstantGame}
 use Rattle.def_constant_sum.proofs.Faultless.{faultless}
 use Rattle.def_constant_sum.proofs.Gains.{best_payoffs, exploitability_is_gained}
@@ -27,7 +27,7 @@ use Rattle.def_constant_sum.proofs.Turning.{bounds_in_weights, each_bounds_the_o
 use Rattle.def_cert_verdict.specs.Certificate.{PrintedBounds, printed_numbers}
 use Rattle.def_cert_text.specs.Laws.{with_second}
 use Rattle.def_cert_versions.specs.Verdict.{versioned_verdict}
-use Rattle.def_cert_versions.proofs.PlayerTwo.{bounds_player_two}
+use Rattle.def_cert_versions.proofs.PlayerTwo.{at_most-through, bounds_player_two}
 use Rattle.def_check.specs.Accepted.{IsAccepted}
 use Rattle.def_check.proofs.Checked.{test_first, tested_ok}
 use Rattle.def_check.proofs.InNumbers.{faultless_game}
@@ -39,20 +39,6 @@ use Rattle.def_program_laws.specs.Bounds.{AcceptedSecondsBoundPlayerTwo, BoundsH
 constant_game : (bytes : List ℕ) (game : GameFile) → IsAccepted bytes game → IsConstantGame (tables_of game) game.tree
 constant_game bytes game is =
     let it = faultless_game bytes game is in faultless game it.whole it.fractions it.no_fault
-
--- at most what is at most
-at_most-through : (f g h : Fraction) → 1 ≤ g.den → IsAtMost f g → IsAtMost g h → IsAtMost f h
-at_most-through f g h some below above =
-    *ℤ-cancel_right g.den (f.num *ℤ pos h.den) (h.num *ℤ pos f.den) some
-    (between ((f.num *ℤ pos h.den) *ℤ pos g.den) ((g.num *ℤ pos f.den) *ℤ pos h.den) ((h.num *ℤ pos f.den) *ℤ pos g.den)
-    (subst (λ (z : ℤ). z ≤ℤ ((g.num *ℤ pos f.den) *ℤ pos h.den)) (times_turned f.num g.den h.den)
-    (*ℤ-mono_right h.den (f.num *ℤ pos g.den) (g.num *ℤ pos f.den) below))
-    (subst (λ (z : ℤ). z ≤ℤ ((h.num *ℤ pos f.den) *ℤ pos g.den)) (times_turned g.num h.den f.den)
-    (subst (λ (z : ℤ). ((g.num *ℤ pos h.den) *ℤ pos f.den) ≤ℤ z) (times_turned h.num g.den f.den)
-    (*ℤ-mono_right f.den (g.num *ℤ pos h.den) (h.num *ℤ pos g.den) above))))
-  where
-    between : (a b c : ℤ) → a ≤ℤ b → b ≤ℤ c → a ≤ℤ c
-    between a b c low high = omega (arith, ints)
 
 -- f less g in lowest terms, where it is the gap over the units
 less_in_units : (f g : Fraction) (gap : ℤ) (units : ℕ) → 1 ≤ f.den → 1 ≤ g.den → 1 ≤ units

@@ -5,7 +5,7 @@ use Rattle.std.proofs.lemmas.Nat.{mul-le}
 use Rattle.def_sums.proofs.RingLaws.{*ℤ-cancel_right, *ℤ-mono_right}
 use Rattle.def_fraction.specs.Fraction.{Fraction}
 use Rattle.def_fraction.proofs.OrderLemmas.{times_turned}
-use Rattle.def_constant_sum.specs.Bounds.{IsAtMost}
+use Rattle.def_fraction.specs.Order.{IsAtMost}
 use Rattle.def_cert_verdict.specs.Certificate.{PrintedBounds, printed_numbers}
 use Rattle.def_plan.specs.Weighed.{WeighedGame}
 use Rattle.def_cert_verdict.specs.Laws.{ConcedesAtMost, GetsAtLeast}

@@ -8,8 +8,8 @@ use Rattle.def_game_scale.specs.Scale.{game_unit}
 use Rattle.def_plan.specs.Pennies.{pennies}
 use Rattle.def_reply.specs.Bounds.{IsExploitability}
 use Rattle.def_constant_sum.specs.Expected.{expected_payoff}
-use Rattle.def_constant_sum.specs.Bounds.{difference_of}
-use Rattle.def_constant_sum.specs.Rows.{coin_tables}
+use Rattle.def_fraction.specs.Order.{difference_of}
+use Rattle.def_constant_sum.specs.Rows.{coin_tables, mostly_tails}
 
 -- player one plays tails, with root 1
 abbrev tails_of_one : List ℕ
@@ -25,12 +25,9 @@ pub record ExploitabilityRows : Type 0 where
   pub apart : IsExploitability pennies 1 2 tails_of_one heads_of_two (pos 4)
   pub only : (gap : ℤ) → IsExploitability pennies 1 2 tails_of_one heads_of_two gap → gap ≡ pos 4
 
--- heads as often as tails, and heads once in three times
+-- heads as often as tails
 abbrev evenly : List ℕ
 evenly = 2 ∷ 1 ∷ 1 ∷ []
-
-abbrev mostly_tails : List ℕ
-mostly_tails = 3 ∷ 1 ∷ 2 ∷ []
 
 -- player one's bounds of these plans where the players play for one coin
 abbrev coin_low : Fraction

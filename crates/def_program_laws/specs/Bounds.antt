@@ -17,7 +17,8 @@ use Rattle.def_sequence_form.specs.Form.{form_of_game}
 use Rattle.def_reply.specs.Bounds.{IsExploitability}
 use Rattle.def_game_numbers.specs.Numbers.{tables_of}
 use Rattle.def_game_numbers.specs.Weighed.{weighed_game}
-use Rattle.def_constant_sum.specs.Bounds.{IsAtMost, IsBestPayoff, IsGainOfBoth, IsPlanFor, IsSureOf, KeepsTo, difference_of}
+use Rattle.def_fraction.specs.Order.{IsAtMost, difference_of}
+use Rattle.def_constant_sum.specs.Bounds.{IsBestPayoff, IsGainOfBoth, IsPlanFor, IsSureOf, KeepsTo}
 use Rattle.def_cert_verdict.specs.Certificate.{PrintedBounds, printed_numbers}
 use Rattle.def_plan.specs.Weighed.{WeighedGame}
 use Rattle.def_cert_verdict.specs.Laws.{ConcedesAtMost, GetsAtLeast}

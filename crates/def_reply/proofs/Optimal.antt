@@ -27,7 +27,7 @@ actions player w first (h ∷ hs) [] t = t
 actions player w first (h ∷ hs) (r ∷ rs) t = (t.0.an_action, actions player w (first + h.actions) hs rs t.1)
 
 -- what a sequence has is nothing but where it is chosen
-only_chosen : (w : ℕ → ℤ) (value : ℤ) (n s c : ℕ) (x : ℕ) → w c ≡ value → x ≡ cond (eqb s c) n 0 → 0 < x → w s ≡ value
+pub only_chosen : (w : ℕ → ℤ) (value : ℤ) (n s c : ℕ) (x : ℕ) → w c ≡ value → x ≡ cond (eqb s c) n 0 → 0 < x → w s ≡ value
 only_chosen w value n s c x reached e some =
     ⊎_elim (λ yes. ap w yes.1 ∙ reached) (λ no. absurd (omega (arith, e ∙ ap (λ b. cond b n 0) no.0))) (eqb_tells s c)
 

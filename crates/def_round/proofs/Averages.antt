@@ -34,7 +34,7 @@ floor_at_least n d low some le =
     (λ le. le)
 
 -- the sum of what each unit carries, where all carry the same
-same_for_all : (play : ℕ → ℕ) (c : ℤ) (xs : List ℕ)
+pub same_for_all : (play : ℕ → ℕ) (c : ℤ) (xs : List ℕ)
     → sum_over (λ s. pos (play s) *ℤ c) xs ≡ c *ℤ pos (nat_sum_over play xs)
 same_for_all play c xs =
     sum_over-same (λ s. pos (play s) *ℤ c) (λ s. c *ℤ pos (play s)) xs (λ k d low. *ℤ_comm _ c)

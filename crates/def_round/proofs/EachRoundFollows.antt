@@ -38,7 +38,7 @@ have_all form root (suc n) order_one order_two some =
 grows : (before plan : List ℕ) (n : ℕ) → length before ≡ n → length plan ≡ n → GrowsBy before plan (added before plan)
 grows before plan n e f = record { all_sequences = length-added before plan (e ∙ sym f); each_number = λ s. at-added before plan s (e ∙ sym f) }
 
-deals : (sets : List InformationSet) (play : List ℕ) (root : ℕ) → AreInOrder sets → 1 ≤ root
+pub deals : (sets : List InformationSet) (play : List ℕ) (root : ℕ) → AreInOrder sets → 1 ≤ root
     → IsPlanOfPlay sets play root (plan_of_play sets play root)
 deals sets play root order some = record { is_plan = plays_deal_plans sets play root order some; each_set = plays_deal_by_shares sets play root order }
 

@@ -20,10 +20,11 @@ use Rattle.def_round.specs.Round.{utility, own_sum, round_values, set_regrets, r
 use Rattle.def_round.specs.Rounds.{Standing, rounds}
 use Rattle.def_round.proofs.Plays.{plays_all_units, plays_deal_plans}
 use Rattle.def_round.specs.Sizes.{size_of_sums, IsWithin, IsWithinRunLimits}
-use Rattle.def_round.specs.SizeLaws.{OwnSumsAreSmall, RegretsGrowSlowly, RoundsAreSmall, PlayProductsAreSmall, RegretsAreSmall, RegretsGrowByTheSums, RegretsStaySmall, DealsWithin, DealtProductsAreSmall}
+use Rattle.def_round.specs.SizeLaws.{OwnSumsAreSmall, RegretsGrowSlowly, RoundsAreSmall, PlayProductsAreSmall, RegretsAreSmall, RegretsGrowByTheSums}
+use Rattle.def_round.specs.SizeLaws.{RegretsStaySmall, DealsWithin, DealtProductsAreSmall}
 use Rattle.def_round.proofs.Trees.{values_within}
 
-utility_size : (player : Player) (payoff : ℤ) → unsigned_abs (utility player payoff) ≡ unsigned_abs payoff
+pub utility_size : (player : Player) (payoff : ℤ) → unsigned_abs (utility player payoff) ≡ unsigned_abs payoff
 utility_size One payoff = refl
 utility_size Two payoff = omega (arith, ints)
 

@@ -16,7 +16,8 @@ use Rattle.def_reply.proofs.BestEnds.{best_ends}
 use Rattle.def_reply.proofs.EvaluatedRounds.{rounds as rounds_evaluated}
 use Rattle.def_round.proofs.Sums.{rounds_sum_to_plans}
 use Rattle.def_run.specs.Run.{reply_to, WeighedRun, HasWeights, evaluation_in, evaluations_in, lower_plan_in, upper_plan_in}
-use Rattle.def_run.specs.WeighedLaws.{PlainRunsSumPlans, IsEndIn, WeighedEvaluationsAreBounds, WeighedEndsAreTheEarliestBest, WeighedEndsAreBounds, WeighedRunsHaveEnds, WeighedEndsAreInOrder, GapOfWeighedRunIsExploitability, WeighedEndsBoundAllPlans}
+use Rattle.def_run.specs.WeighedLaws.{PlainRunsSumPlans, IsEndIn, WeighedEvaluationsAreBounds, WeighedEndsAreTheEarliestBest, WeighedEndsAreBounds}
+use Rattle.def_run.specs.WeighedLaws.{WeighedRunsHaveEnds, WeighedEndsAreInOrder, GapOfWeighedRunIsExploitability, WeighedEndsBoundAllPlans}
 
 -- after any round both sums are plans, and their evaluation is an attained floor and an attained ceiling
 pub weighed_evaluations_are_bounds : WeighedEvaluationsAreBounds
@@ -30,7 +31,7 @@ weighed_evaluations_are_bounds form root run round order_one order_two sums some
 }
 
 -- ---- the ends
-length_evaluations : (form : SequenceForm) (run : WeighedRun) (ks : List ℕ) → length (map (evaluation_in form run) ks) ≡ length ks
+pub length_evaluations : (form : SequenceForm) (run : WeighedRun) (ks : List ℕ) → length (map (evaluation_in form run) ks) ≡ length ks
 length_evaluations form run [] = refl
 length_evaluations form run (k ∷ ks) = ap suc (length_evaluations form run ks)
 

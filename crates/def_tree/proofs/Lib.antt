@@ -1,3 +1,4 @@
+pub mod Fronts
 pub mod Forests
 pub mod Lists
 pub mod Sets
@@ -6,3 +7,4 @@ pub mod Nesting
 pub mod Outcomes
 pub mod Rows
 pub mod Linking
+pub mod HasLeaf

@@ -8,7 +8,7 @@ use Rattle.def_fraction.proofs.FractionLemmas.{fraction_of-reduced}
 use Rattle.def_game_scale.specs.Scale.{weight_of}
 use Rattle.def_game_scale.proofs.Units.{whole-weight}
 use Rattle.def_sums.specs.Limits.{most_root, most_row}
-use Rattle.def_constant_sum.specs.Bounds.{difference_of}
+use Rattle.def_fraction.specs.Order.{difference_of}
 use Rattle.def_constant_sum.proofs.Times.{difference-lowest, same-without, times-difference, times-reduced, times-same}
 use Rattle.def_reply.specs.Outcome.{End, Head}
 use Rattle.def_cert_verdict.specs.Certificate.{PrintedBounds}

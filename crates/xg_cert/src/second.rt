@@ -4,7 +4,7 @@ ghost use Rattle.def_fraction.specs.Fraction.{most, most_wide};
 ghost use Rattle.def_sums.specs.Limits.{most_row};
 ghost use Rattle.def_game_scale.specs.Scale.{weight_of};
 ghost use Rattle.def_cert_verdict.specs.Ranges.{IsFromTo};
-ghost use Rattle.def_constant_sum.specs.Bounds.{difference_of};
+ghost use Rattle.def_fraction.specs.Order.{difference_of};
 ghost use Rattle.def_game_numbers.specs.WholeSums.{IsWholeIn};
 ghost use Rattle.xg_cert.specs.Writable.{IsWholeEnd};
 

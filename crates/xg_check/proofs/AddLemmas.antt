@@ -1,5 +1,6 @@
 -- The rows after one value more, and after all of them.
-use Rattle.std.proofs.Common.{◌≡◌, ℕ, ◌+◌, ◌-◌, ◌<◌, ◌≤◌, Bool, true, false, cond, eqb, List, ◌∷◌, length, get_or, drop, filter, zip, Some, slice_get, ℤ, pos, ◌+ℤ◌, unsigned_abs, sym, ap, ◌∙◌, arith}
+use Rattle.std.proofs.Common.{◌≡◌, ℕ, ◌+◌, ◌-◌, ◌<◌, ◌≤◌, Bool, true, false, cond, eqb, List, ◌∷◌, length, get_or, drop, filter, zip, Some, slice_get, ℤ, pos}
+use Rattle.std.proofs.Common.{◌+ℤ◌, unsigned_abs, sym, ap, ◌∙◌, arith}
 use Rattle.std.proofs.lemmas.Int.{ints}
 use Rattle.std.proofs.lemmas.List.{drop_more, drop_all}
 use Rattle.std.proofs.lemmas.Option.{get_or_from_slice_get}
@@ -9,7 +10,8 @@ use Rattle.def_sums.proofs.RingLaws.{+ℤ_assoc, +ℤ-zero, zero-+ℤ, unsigned_
 use Rattle.def_sums.proofs.SumLaws.{sum_over-filter}
 use Rattle.def_plan.specs.Form.{Leaf, PlacedSet, leaf_sequence}
 use Rattle.def_plan.specs.Payoff.{leaf_sum, values_after}
-use Rattle.xg_check.specs.Views.{AddsAt, AreAllWithin, paid_at_leaf, row}
+use Rattle.def_plan.specs.Threads.{paid_at_leaf}
+use Rattle.xg_check.specs.Views.{AddsAt, AreAllWithin, row}
 
 -- a sum over those of a list that pass a test, by the list's first
 sum_more : {A : Type 0} (f : A → ℤ) (own : A → Bool) (x : A) (xs : List A)

@@ -9,7 +9,7 @@ use Rattle.def_tree.specs.Opponent.{opponent}
 use Rattle.def_plan.specs.Form.{AreInOrder}
 use Rattle.def_plan.specs.Weighed.{WeighedGame}
 use Rattle.def_reply.specs.Outcome.{Head}
-use Rattle.def_constant_sum.specs.Bounds.{difference_of}
+use Rattle.def_fraction.specs.Order.{difference_of}
 use Rattle.def_cert_verdict.specs.declared.fault.TestFault.{TestFault}
 use Rattle.def_cert_verdict.specs.declared.fault.TestFault.TheVariants.{SecondDiffers}
 use Rattle.def_cert_verdict.specs.Certificate.{Certificate, PrintedBounds}

@@ -1,5 +1,6 @@
 -- Sums along the threads of leaves, and the rows after each.
-use Rattle.std.proofs.Common.{◌≡◌, ◌≢◌, ℕ, zero, suc, ◌+◌, ◌-◌, ◌*◌, ◌^◌, ◌<◌, ◌≤◌, Bool, true, false, cond, eqb, List, [], ◌∷◌, length, get_or, drop, map, Option, Some, None, slice_get, ℤ, pos, ◌+ℤ◌, unsigned_abs, All, refl, sym, ap, ◌∙◌, subst, arith, ⊎_elim, eqb-true, eq-eqb}
+use Rattle.std.proofs.Common.{◌≡◌, ◌≢◌, ℕ, zero, suc, ◌+◌, ◌-◌, ◌*◌, ◌^◌, ◌<◌, ◌≤◌, Bool, true, false, cond, eqb, List, [], ◌∷◌, length, get_or, drop, map}
+use Rattle.std.proofs.Common.{Option, Some, None, slice_get, ℤ, pos, ◌+ℤ◌, unsigned_abs, All, refl, sym, ap, ◌∙◌, subst, arith, ⊎_elim, eqb-true, eq-eqb}
 use Rattle.std.specs.Prelude.{⊤, slice_index}
 use Rattle.std.proofs.lemmas.Bool.{cases_eq, cases_lt, cond-true, cond-false, ne_eqb}
 use Rattle.std.proofs.lemmas.List.{drop_more, drop_all, get_or-map}
@@ -9,11 +10,11 @@ use Rattle.def_tree.specs.declared.Player.{Player}
 use Rattle.def_sums.proofs.RingLaws.{+ℤ-zero, zero-+ℤ, unsigned_abs-+ℤ}
 use Rattle.def_plan.specs.Form.{Leaf, SequenceForm, leaf_sequence, player_sets, sequence_count}
 use Rattle.def_plan.specs.Payoff.{leaf_sum}
-use Rattle.def_plan.specs.Threads.{first_leaf, first_leaf_from, next_leaf, sequence_of_leaf}
+use Rattle.def_plan.specs.Threads.{first_leaf, first_leaf_from, next_leaf, paid_at_leaf, sequence_of_leaf}
 use Rattle.xg_seq.specs.Leaves.{HasSequences}
 use Rattle.xg_seq.proofs.FormLemmas.{sequence_there}
 use Rattle.xg_check.specs.ThreadSums.{HasSumsFrom, IsNumberWithin, sum_on}
-use Rattle.xg_check.specs.Views.{AddsAt, AreAllWithin, paid_at_leaf, row}
+use Rattle.xg_check.specs.Views.{AddsAt, AreAllWithin, row}
 use Rattle.xg_check.proofs.AddLemmas.{leaf_more}
 
 abbrev no_leaf : Leaf

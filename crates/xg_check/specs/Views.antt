@@ -1,9 +1,6 @@
 -- What the code's values stand for, and what one step does to the rows.
-use Rattle.std.specs.Prelude.{◌≡◌, ℕ, ◌≤◌, ◌==◌, List, ℤ, pos, ◌+ℤ◌, ◌*ℤ◌, unsigned_abs, slice_index}
+use Rattle.std.specs.Prelude.{◌≡◌, ℕ, ◌≤◌, ◌==◌, List, ℤ, pos, ◌+ℤ◌, unsigned_abs}
 use Rattle.std.specs.Prelude.{slice_index_or, if◌then◌else◌}
-use Rattle.def_tree.specs.declared.Player.{Player}
-use Rattle.def_tree.specs.Opponent.{opponent}
-use Rattle.def_plan.specs.Form.{Leaf, leaf_sequence}
 use Rattle.def_reply.specs.Reply as reply
 use Rattle.def_reply.specs.Reply.{Reply}
 use Rattle.xg_plan.specs.Reply.{set_replies}
@@ -26,7 +23,3 @@ AddsAt before now k x = (s : ℕ) → row now s ≡ row before s +ℤ (if k == s
 
 abbrev pub AreAllWithin : ℕ → List ℤ → Type 0
 AreAllWithin most rows = (s : ℕ) → unsigned_abs (row rows s) ≤ most
-
--- a leaf's weight times the other player's number
-abbrev pub paid_at_leaf : Player → List ℕ → Leaf → ℤ
-paid_at_leaf player against z = z.weight *ℤ pos (slice_index against (leaf_sequence (opponent player) z))

@@ -5,12 +5,12 @@ ghost use Rattle.def_sums.specs.Limits.{most_root};
 ghost use Rattle.def_tree.specs.Opponent.{opponent};
 ghost use Rattle.def_plan.specs.Form.{AreInOrder, leaf_sequence, placed, player_sets, sequence_count};
 ghost use Rattle.def_plan.specs.Payoff.{leaf_sum, values_after};
-ghost use Rattle.def_plan.specs.Threads.{sequence_of_leaf};
+ghost use Rattle.def_plan.specs.Threads.{paid_at_leaf, sequence_of_leaf};
 ghost use Rattle.def_cert_verdict.specs.Ranges.{most_printed};
 ghost use Rattle.xg_seq.specs.Leaves.{leaf_of};
 ghost use Rattle.xg_seq.specs.Table.{most_sequences};
 ghost use Rattle.xg_check.specs.ThreadSums.{HasSumsFrom, IsNumberWithin, sum_on};
-ghost use Rattle.xg_check.specs.Views.{AddsAt, AreAllWithin, paid_at_leaf, row};
+ghost use Rattle.xg_check.specs.Views.{AddsAt, AreAllWithin, row};
 
 use def_tree::Player;
 use xg_seq::{Leaf, SeqForm};

@@ -1,6 +1,6 @@
 //! The test of the bracket of player two's own payoff.
 ghost use Rattle.std.specs.Prelude.{◌≡◌, ◌≤◌, ◌&&◌, not};
-ghost use Rattle.def_constant_sum.specs.Bounds.{difference_of};
+ghost use Rattle.def_fraction.specs.Order.{difference_of};
 ghost use Rattle.def_cert_verdict.specs.Verdict.{is_same_fraction};
 ghost use Rattle.def_cert_text.specs.Versions.{has_second, in_version_one};
 ghost use Rattle.def_cert_versions.specs.Upgrade.{IsUpgradable};

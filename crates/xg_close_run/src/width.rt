@@ -2,7 +2,7 @@
 ghost use Rattle.std.specs.Prelude.{◌≡◌, ◌↔◌, ◌≤◌, ◌*◌, ◌^◌, ◌≤ℤ◌, ◌*ℤ◌, pos, unsigned_abs, IfOk, IfSome, IsTrue};
 ghost use Rattle.def_close.specs.Narrow.{AreAsNarrow};
 ghost use Rattle.def_fraction.specs.Fraction.{most};
-ghost use Rattle.def_payoffs.specs.Range.{IsNoMore};
+ghost use Rattle.def_fraction.specs.Order.{IsAtMost};
 ghost use Rattle.def_program.specs.Bounds.{difference};
 ghost use Rattle.def_progress.specs.Decimals.{IsQuotientText};
 ghost use Rattle.xg_close_lines.specs.Texts.{asked_text};
@@ -72,7 +72,7 @@ fn usual_width(alloc: Global, game: &AcceptedGame) -> Result<Width, AllocError>
 
 /// The part of the range between two payoffs that is the width where none is given.
 fn part_of(low: Frac, high: Frac) -> Width
-    requires { IsNoMore low high }
+    requires { IsAtMost low high }
     ensures part { width_of result ≡ part_of_range (difference high low) }
     ensures small { IsSmallWidth result }
 {

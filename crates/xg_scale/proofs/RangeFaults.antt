@@ -10,7 +10,7 @@ use Rattle.def_game_scale.specs.Tables.{AreFractions, payoff_one}
 use Rattle.def_game_scale.proofs.First.{number_first}
 use Rattle.def_game_numbers.specs.Numbers.{tables_of}
 use Rattle.def_payoffs.specs.Range.{leaf_payoffs}
-use Rattle.def_payoffs.proofs.HasLeaf.{has_leaf, have_children}
+use Rattle.def_tree.proofs.HasLeaf.{has_leaf, have_children}
 use Rattle.def_sequence_form.proofs.Leaves.{leaves_counted}
 use Rattle.def_tree.specs.Tree.{leaf_count, prefix}
 use Rattle.xg_game.specs.declared.fault.Refused.{Refused}

@@ -1,7 +1,7 @@
 //! The least and the greatest of some payoffs.
 ghost use Rattle.std.specs.Prelude.{◌≡◌, ◌++◌, ◌∷◌, ◌⊎◌, [], List, Some, IsTrue, IsFalse};
 ghost use Rattle.def_fraction.specs.Fraction.{Fraction};
-ghost use Rattle.def_payoffs.specs.Range.{IsNoMore};
+ghost use Rattle.def_fraction.specs.Order.{IsAtMost};
 ghost use Rattle.xg_scale.specs.Range.{IsRangeOf};
 
 use crate::parts::known;
@@ -35,8 +35,8 @@ pub(crate) fn range_with(range: Option<PayoffRange>, payoff: Frac) -> PayoffRang
 #[inline(always)]
 fn lesser(a: Frac, b: Frac) -> Frac
     ensures one { (result ≡ a) ⊎ (result ≡ b) }
-    ensures first { IsNoMore result a }
-    ensures second { IsNoMore result b }
+    ensures first { IsAtMost result a }
+    ensures second { IsAtMost result b }
 {
     if is_less(b, a) { b } else { a }
 }
@@ -44,8 +44,8 @@ fn lesser(a: Frac, b: Frac) -> Frac
 #[inline(always)]
 fn greater(a: Frac, b: Frac) -> Frac
     ensures one { (result ≡ a) ⊎ (result ≡ b) }
-    ensures first { IsNoMore a result }
-    ensures second { IsNoMore b result }
+    ensures first { IsAtMost a result }
+    ensures second { IsAtMost b result }
 {
     if is_less(a, b) { b } else { a }
 }
@@ -53,8 +53,8 @@ fn greater(a: Frac, b: Frac) -> Frac
 /// Whether the value of one is below that of the other. Most fractions have the same denominator.
 #[inline(always)]
 fn is_less(a: Frac, b: Frac) -> bool
-    ensures less { IsTrue result → IsNoMore a b }
-    ensures other { IsFalse result → IsNoMore b a }
+    ensures less { IsTrue result → IsAtMost a b }
+    ensures other { IsFalse result → IsAtMost b a }
 {
     if a.den() == b.den() {
         return a.num() < b.num();

@@ -11,14 +11,14 @@ use Rattle.def_tree.specs.declared.Player.{Player}
 use Rattle.def_tree.specs.declared.Player.TheVariants.{One, Two}
 use Rattle.def_plan.specs.Form.{SequenceForm, Leaf, sequence_count}
 use Rattle.def_plan.specs.Payoff.{leaf_sum}
-use Rattle.def_plan.specs.Threads.{first_leaf_from}
+use Rattle.def_plan.specs.Threads.{first_leaf_from, paid_at_leaf}
 use Rattle.def_plan.proofs.Rows.{in_row_of_two}
 use Rattle.def_history.specs.Ranges.{LeafRange}
 use Rattle.def_history.specs.JobPackets.{has_row, touched_rows}
 use Rattle.def_history.specs.JobRows.{form_leaf, job_leaves}
 use Rattle.def_history.proofs.JobPackets.{touched_rows_are_exact}
 use Rattle.xg_touched.specs.Filling.{amount_upto}
-use Rattle.xg_touched.specs.Threads.{leaf_numbered, leaf_product, leaves_after, thread_sum}
+use Rattle.xg_touched.specs.Threads.{leaf_numbered, leaves_after, thread_sum}
 use Rattle.xg_touched.specs.Touched.{IsRowOf, JobRows, both_rows, first_leaves_with, first_with_row, job_rows, sequence_of_row}
 use Rattle.xg_touched.proofs.Following.{goes_on}
 use Rattle.xg_touched.proofs.Rising.{differ}
@@ -93,7 +93,7 @@ thread_from player leaves against s first count leaf within e =
       in_order = step.within;
       sum =
           ap
-          (λ k. leaf_product player against (leaf_numbered leaves leaf) +ℤ leaf_sum player (leaves_after leaves leaf (first + count)) against k)
+          (λ k. paid_at_leaf player against (leaf_numbered leaves leaf) +ℤ leaf_sum player (leaves_after leaves leaf (first + count)) against k)
           step.own
           ∙ sym step.sum ∙ ap (λ k. leaf_sum player (take k (drop first leaves)) against s) (sym all);
     }

@@ -7,21 +7,21 @@ use Rattle.def_sums.specs.Sum.{sum_over}
 use Rattle.def_tree.specs.declared.Player.{Player}
 use Rattle.def_plan.specs.Form.{Leaf, leaf_sequence}
 use Rattle.def_plan.specs.Payoff.{leaf_sum}
-use Rattle.def_plan.specs.Threads.{first_leaf_from, sequence_of_leaf}
-use Rattle.xg_touched.specs.Threads.{leaf_numbered, leaf_product, leaves_after}
+use Rattle.def_plan.specs.Threads.{first_leaf_from, paid_at_leaf, sequence_of_leaf}
+use Rattle.xg_touched.specs.Threads.{leaf_numbered, leaves_after}
 
 -- a leaf in front adds to the sum where it has the sequence
 abbrev sum_with : Bool → Player → List ℕ → ℕ → Leaf → List Leaf → Rattle.std.specs.Prelude.ℤ
 sum_with b player against s x xs =
     let rest = filter (λ (z : Leaf). eqb (leaf_sequence player z) s) xs in
-    sum_over (leaf_product player against) (cond b (x ∷ rest) rest)
+    sum_over (paid_at_leaf player against) (cond b (x ∷ rest) rest)
 
 -- leaf n is the first of these leaves that has the sequence, and the sum over them begins with it
 record IsFirst (player : Player) (s m : ℕ) (xs : List Leaf) (against : List ℕ) (n : ℕ) : Type 0 where
   low : m ≤ n
   high : n < m + length xs
   own : (d : Leaf) → leaf_sequence player (get_or xs (n - m) d) ≡ s
-  sum : (d : Leaf) → leaf_sum player xs against s ≡ leaf_product player against (get_or xs (n - m) d) +ℤ leaf_sum player (drop (n + 1 - m) xs) against s
+  sum : (d : Leaf) → leaf_sum player xs against s ≡ paid_at_leaf player against (get_or xs (n - m) d) +ℤ leaf_sum player (drop (n + 1 - m) xs) against s
 
 is_first : (player : Player) (s m : ℕ) (xs : List Leaf) (against : List ℕ) (n : ℕ)
     → first_leaf_from player s m xs ≡ Some n → IsFirst player s m xs against n
@@ -41,7 +41,7 @@ is_first player s m (x ∷ xs) against n e = by_test (λ later. is_first player 
           own = λ d. ap (λ k. leaf_sequence player (get_or (x ∷ xs) k d)) place ∙ eqb-true (leaf_sequence player x) s same;
           sum = λ d.
               ap (λ b. sum_with b player against s x xs) same
-              ∙ sym (λ i. leaf_product player against (get_or (x ∷ xs) (place i) d) +ℤ leaf_sum player (drop (behind i) (x ∷ xs)) against s);
+              ∙ sym (λ i. paid_at_leaf player against (get_or (x ∷ xs) (place i) d) +ℤ leaf_sum player (drop (behind i) (x ∷ xs)) against s);
         }
     by_test later false other e =
         let f : IsFirst player s (m + 1) xs against n = later e in
@@ -54,7 +54,7 @@ is_first player s m (x ∷ xs) against n e = by_test (λ later. is_first player 
           own = λ d. ap (λ k. leaf_sequence player (get_or (x ∷ xs) k d)) place ∙ f.own d;
           sum = λ d.
               ap (λ b. sum_with b player against s x xs) other ∙ f.sum d
-              ∙ sym (λ i. leaf_product player against (get_or (x ∷ xs) (place i) d) +ℤ leaf_sum player (drop (behind i) (x ∷ xs)) against s);
+              ∙ sym (λ i. paid_at_leaf player against (get_or (x ∷ xs) (place i) d) +ℤ leaf_sum player (drop (behind i) (x ∷ xs)) against s);
         }
 
 -- leaves of which none has the sequence bring nothing to it
@@ -118,7 +118,7 @@ pub record GoesOn (player : Player) (leaves : List Leaf) (against : List ℕ) (s
   pub within : n ≤ last
   pub own : sequence_of_leaf player n leaves ≡ s
   pub sum : leaf_sum player (leaves_after leaves z last) against s
-      ≡ leaf_product player against (leaf_numbered leaves n) +ℤ leaf_sum player (leaves_after leaves n last) against s
+      ≡ paid_at_leaf player against (leaf_numbered leaves n) +ℤ leaf_sum player (leaves_after leaves n last) against s
 
 pub goes_on : (player : Player) (leaves : List Leaf) (against : List ℕ) (s z last n : ℕ) → z ≤ last
     → last ≤ length leaves → first_leaf_from player s (z + 1) (leaves_after leaves z last) ≡ Some n
@@ -144,7 +144,7 @@ goes_on player leaves against s z last n order there e =
       after = omega arith;
       within = high;
       own = get_or-map (leaf_sequence player) leaves (n - 1) none 0 (omega arith) ∙ ap (leaf_sequence player) (sym read) ∙ f.own none;
-      sum = f.sum none ∙ (λ i. leaf_product player against (read i) +ℤ leaf_sum player (rest i) against s);
+      sum = f.sum none ∙ (λ i. paid_at_leaf player against (read i) +ℤ leaf_sum player (rest i) against s);
     }
 
 -- the next leaf of the thread of a leaf, as it was found

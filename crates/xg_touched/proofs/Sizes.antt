@@ -10,10 +10,10 @@ use Rattle.def_tree.specs.Opponent.{opponent}
 use Rattle.def_plan.specs.Form.{Leaf, leaf_sequence}
 use Rattle.def_plan.specs.FormRows.{amount_at}
 use Rattle.def_plan.specs.Payoff.{leaf_sum, mass_of}
-use Rattle.def_plan.specs.Threads.{sequence_of_leaf}
+use Rattle.def_plan.specs.Threads.{paid_at_leaf, sequence_of_leaf}
 use Rattle.def_plan.proofs.Rows.{leaf_sums_add_amounts}
 use Rattle.def_plan.proofs.SizeLaws.{slice_index-at_most}
-use Rattle.xg_touched.specs.Threads.{leaf_numbered, leaf_product, leaves_after, thread_sum}
+use Rattle.xg_touched.specs.Threads.{leaf_numbered, leaves_after, thread_sum}
 use Rattle.xg_touched.proofs.Following.{GoesOn}
 
 mass_take : (k : ℕ) (leaves : List Leaf) → mass_of (take k leaves) ≤ mass_of leaves
@@ -73,7 +73,7 @@ part_fits : (player : Player) (leaves : List Leaf) (against : List ℕ) (leaf z 
     → part +ℤ leaf_sum player (leaves_after leaves z last) against s ≡ thread_sum player leaves against leaf last
     → unsigned_abs part < 2 ^ 127
 part_fits player leaves against leaf z last s part small light whole =
-    let head : ℤ = leaf_product player against (leaf_numbered leaves leaf) in
+    let head : ℤ = paid_at_leaf player against (leaf_numbered leaves leaf) in
     let own : ℤ = leaf_sum player (leaves_after leaves leaf last) against (sequence_of_leaf player leaf leaves) in
     let rest : ℤ = leaf_sum player (leaves_after leaves z last) against s in
     let at : Leaf = leaf_numbered leaves leaf in
@@ -95,7 +95,7 @@ one_more part read product rest before whole is split sum = omega (arith, ints)
 pub next_added : (player : Player) (leaves : List Leaf) (against : List ℕ) (leaf z last n : ℕ) (sum read : ℤ)
     → GoesOn player leaves against (sequence_of_leaf player leaf leaves) z last n
     → All (λ number. number ≤ most_root) against → mass_of leaves ≤ most_mass
-    → read ≡ leaf_product player against (leaf_numbered leaves n)
+    → read ≡ paid_at_leaf player against (leaf_numbered leaves n)
     → sum +ℤ leaf_sum player (leaves_after leaves z last) against (sequence_of_leaf player leaf leaves)
     ≡ thread_sum player leaves against leaf last
     → (unsigned_abs (sum +ℤ read) < 2 ^ 127)
@@ -103,7 +103,7 @@ pub next_added : (player : Player) (leaves : List Leaf) (against : List ℕ) (le
     ≡ thread_sum player leaves against leaf last)
 next_added player leaves against leaf z last n sum read step small light read_is before =
     let s : ℕ = sequence_of_leaf player leaf leaves in
-    let whole = one_more sum read (leaf_product player against (leaf_numbered leaves n))
+    let whole = one_more sum read (paid_at_leaf player against (leaf_numbered leaves n))
     (leaf_sum player (leaves_after leaves n last) against s) (leaf_sum player (leaves_after leaves z last) against s)
     (thread_sum player leaves against leaf last) read_is step.sum before in
     (part_fits player leaves against leaf n last s (sum +ℤ read) small light whole, whole)

@@ -3,8 +3,8 @@ ghost use Rattle.std.specs.Prelude.{◌≡◌, ◌+◌, ◌-◌, ◌<◌, ◌≤
 ghost use Rattle.def_sums.specs.Limits.{most_root, past_number};
 ghost use Rattle.def_tree.specs.Opponent.{opponent};
 ghost use Rattle.def_plan.specs.Form.{player_sets, sequence_count};
-ghost use Rattle.def_plan.specs.Threads.{first_leaf_from, sequence_of_leaf};
-ghost use Rattle.xg_touched.specs.Threads.{leaf_numbered, leaf_product, leaves_after, thread_sum};
+ghost use Rattle.def_plan.specs.Threads.{first_leaf_from, paid_at_leaf, sequence_of_leaf};
+ghost use Rattle.xg_touched.specs.Threads.{leaf_numbered, leaves_after, thread_sum};
 
 use def_tree::Player;
 use xg_seq::SeqForm;
@@ -54,7 +54,7 @@ fn leaf_product(form: &SeqForm, player: Player, z: u32, against: &[u64]) -> i128
     requires there { z ≤ length form.now.leaves }
     requires count { length against.now ≡ sequence_count (player_sets form.now (opponent player)) }
     requires small { All (λ n. n ≤ most_root) against.now }
-    ensures { result ≡ leaf_product player against.now (leaf_numbered form.now.leaves z) }
+    ensures { result ≡ paid_at_leaf player against.now (leaf_numbered form.now.leaves z) }
 {
     // each leaf has sequences of the form
     form.facts();

@@ -3,10 +3,9 @@ use mir.Syntax.{w128}
 use Rattle.std.proofs.lemmas.Int.{to_z-of_z}
 use Rattle.def_tree.specs.Opponent.{opponent}
 use Rattle.def_sums.proofs.RingLaws.{unsigned_abs-+ℤ}
-use Rattle.def_plan.specs.Threads.{next_leaf, sequence_of_leaf}
+use Rattle.def_plan.specs.Threads.{next_leaf, paid_at_leaf, sequence_of_leaf}
 use Rattle.xg_seq.specs.Leaves.{leaf_of}
 use Rattle.xg_check.specs.ThreadSums.{IsNumberWithin, sum_on}
-use Rattle.xg_check.specs.Views.{paid_at_leaf}
 use Rattle.xg_check.proofs.ThreadSums.{leaf_there, next_behind_own, small_behind, sum_here, there_behind}
 use Rattle.xg_check.proofs.adding.sum_from.Goals as goal
 

@@ -1,6 +1,5 @@
 -- Each game tree has a leaf.
 use Rattle.std.proofs.Common.{◌≡◌, ℕ, ◌≤◌, cond, true, false, List, ◌++◌, get_or, take, All, Bool, refl, sym, ap, subst, arith}
-use Rattle.std.proofs.lemmas.List.{length-append, get_or_append_left}
 use Rattle.std.proofs.lemmas.List.Elements.{All-head, All-tail}
 use Rattle.std.proofs.lemmas.List.Sums.{sum_by-append, sum_by-cons}
 use Rattle.def_tree.specs.declared.Kind.{Kind}
@@ -8,6 +7,7 @@ use Rattle.def_tree.specs.declared.Kind.TheVariants.{Chance, One, Two, Leaf}
 use Rattle.def_tree.specs.declared.Node.{Node}
 use Rattle.def_tree.specs.Tree.{Forest, bare, grown, prefix, leaf_count, is_leaf_kind, tree_count, is_leaf_node, HasItsChildren}
 use Rattle.def_tree.specs.Rules.{FitsAs, KeepRules}
+use Rattle.def_tree.proofs.Fronts.{All-front}
 
 -- a node that isn't a leaf has children
 abbrev HasChildren : Node → Type 0
@@ -30,11 +30,6 @@ bare_is_leaf Leaf children none some = refl
 bare_is_leaf Chance children none some = absurd (omega (arith, none, some refl))
 bare_is_leaf One children none some = absurd (omega (arith, none, some refl))
 bare_is_leaf Two children none some = absurd (omega (arith, none, some refl))
-
--- each element of the front is one of the whole
-All-front : (P : Node → Type 0) (xs ys : List Node) → All P (xs ++ ys) → All P xs
-All-front P xs ys all k d low =
-    subst P (get_or_append_left xs ys d k low) (all k d (omega (arith, length-append xs ys, low)))
 
 abbrev one_if_leaf : Node → ℕ
 one_if_leaf node = cond (is_leaf_node node) 1 0
