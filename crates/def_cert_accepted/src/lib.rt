@@ -1,17 +1,2 @@
-//! The certificate of a run, and that it is accepted. There is no code here: the functions' contracts are laws of the
-//! definitions, which stand in `specs/`.
+//! The certificate of a run, and that it is accepted. Its laws and worked rows are in `def_text_laws`.
 #![tactic(auto)]
-
-ghost use Rattle.def_cert_accepted.specs.Laws.{TheCertificateOfARunFits, TheCertificateOfARunIsAccepted};
-
-/// With the game's head a run's certificate is accepted: without a round its head alone, else with the ends of its
-/// evaluations in payoff units.
-pub fn the_certificate_of_a_run_is_accepted()
-    ensures { TheCertificateOfARunIsAccepted }
-{}
-
-/// Where the head is the game's and within its ranges, and no set has too many actions, a run's certificate is within
-/// its ranges.
-pub fn the_certificate_of_a_run_fits()
-    ensures { TheCertificateOfARunFits }
-{}

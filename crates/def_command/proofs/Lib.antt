@@ -1,5 +1,5 @@
 mod Arguments
-mod CallsAreComputed
+pub mod CallsAreComputed
 pub mod InRange
 mod CommandAndOptionNames
 mod WordByWord

@@ -1,10 +1,6 @@
-//! What a game file stands for, how it is read, up to its first fault, and the game of all its entries. There is no
-//! code here but the enum of faults and the limit of bytes; each function's contract is a law or a worked row.
+//! What a game file stands for, how it is read, up to its first fault, and the game of all its entries. Its laws and
+//! worked rows are in `def_game_laws`.
 #![tactic(auto)]
-
-pub mod entries;
-
-ghost use Rattle.def_file.specs.Laws.{ReadingTakesAnyLength};
 
 use def_fraction::NumberFault;
 
@@ -61,8 +57,3 @@ pub enum EntryKind {
     Personal,
     Leaf,
 }
-
-/// Reading itself sets no limit to the number of bytes.
-pub fn reading_takes_any_length()
-    ensures { ReadingTakesAnyLength }
-{}

@@ -1,15 +1,2 @@
-//! The range of what the leaves of a game pay player one. There is no code here; each function's contract is a law, or
-//! rows that the definitions give.
+//! The range of what the leaves of a game pay player one. Its laws and worked rows are in `def_game_laws`.
 #![tactic(auto)]
-
-ghost use Rattle.def_payoffs.specs.Laws.{PayoffRows, RangesHaveOneValue};
-
-/// Two ranges of the same payoffs have the same values.
-pub fn ranges_have_one_value()
-    ensures { RangesHaveOneValue }
-{}
-
-/// Rows: the payoffs of a game, and their range.
-pub fn payoff_rows()
-    ensures { PayoffRows }
-{}

@@ -1,24 +1,8 @@
 //! The texts that the program writes, in definitions alone.
 
-ghost use Rattle.def_program.specs.TextLaws.{LinesTellFaults};
-ghost use Rattle.def_program.specs.TextRows.{CheckLineRows, FaultLineRows, OneLeafRows};
-
-/// Rows: the texts of a game of one leaf.
-pub fn leaf_rows()
-    ensures { OneLeafRows }
-{}
-
-/// Rows: the lines of five faults, with their numbers, names and places.
-pub fn fault_line_rows()
-    ensures { FaultLineRows }
-{}
+ghost use Rattle.def_program.specs.TextRows.{CheckLineRows};
 
 /// Rows: what a check says of what is accepted, and the lines of the faults of a certificate.
 pub fn check_line_rows()
     ensures { CheckLineRows }
-{}
-
-/// Two faults whose numbers have at most 64 bits and whose lines are the same are the same fault.
-pub fn lines_tell_faults()
-    ensures { LinesTellFaults }
 {}

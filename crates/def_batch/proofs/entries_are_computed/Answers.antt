@@ -1,5 +1,0 @@
-use Rattle.def_batch.proofs.Entries.{computed}
-use Rattle.def_batch.proofs.entries_are_computed.Goals as goal
-
-pub returns : goal.returns
-returns c = computed

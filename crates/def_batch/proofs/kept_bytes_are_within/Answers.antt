@@ -1,5 +1,0 @@
-use Rattle.def_batch.proofs.Entries.{kept_within}
-use Rattle.def_batch.proofs.kept_bytes_are_within.Goals as goal
-
-pub returns : goal.returns
-returns c = kept_within

@@ -1,5 +1,0 @@
-use Rattle.def_canon.proofs.RoundTrip.{canon_of_faultless}
-use Rattle.def_canon.proofs.canon_of_faultless.Goals as goal
-
-pub returns : goal.returns
-returns c = canon_of_faultless

@@ -1,5 +1,0 @@
-use Rattle.def_canon.proofs.RoundTrip.{canon_of_file}
-use Rattle.def_canon.proofs.canon_of_file.Goals as goal
-
-pub returns : goal.returns
-returns c = canon_of_file

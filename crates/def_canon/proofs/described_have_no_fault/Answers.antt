@@ -1,5 +1,0 @@
-use Rattle.def_canon.proofs.NoFault.{described_have_no_fault}
-use Rattle.def_canon.proofs.described_have_no_fault.Goals as goal
-
-pub returns : goal.returns
-returns c = described_have_no_fault

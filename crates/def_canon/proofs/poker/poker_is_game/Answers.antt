@@ -1,5 +1,0 @@
-use Rattle.def_canon.proofs.PokerSizes.{poker_is_game}
-use Rattle.def_canon.proofs.poker.poker_is_game.Goals as goal
-
-pub returns : goal.returns
-returns c = poker_is_game

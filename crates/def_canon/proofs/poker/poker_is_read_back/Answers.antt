@@ -1,5 +1,0 @@
-use Rattle.def_canon.proofs.Written.{poker_is_read_back}
-use Rattle.def_canon.proofs.poker.poker_is_read_back.Goals as goal
-
-pub returns : goal.returns
-returns c = poker_is_read_back

@@ -1,5 +1,0 @@
-use Rattle.def_canon.proofs.PokerFileIsShort.{poker_is_short}
-use Rattle.def_canon.proofs.poker.poker_is_short.Goals as goal
-
-pub returns : goal.returns
-returns c = poker_is_short

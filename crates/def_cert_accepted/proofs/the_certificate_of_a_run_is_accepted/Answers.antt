@@ -1,5 +1,0 @@
-use Rattle.def_cert_accepted.proofs.Accepted.{accepted}
-use Rattle.def_cert_accepted.proofs.the_certificate_of_a_run_is_accepted.Goals as goal
-
-pub returns : goal.returns
-returns c = accepted

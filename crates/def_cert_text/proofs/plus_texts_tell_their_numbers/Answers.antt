@@ -1,5 +1,0 @@
-use Rattle.def_cert_text.proofs.PlusTexts.{plus_tell}
-use Rattle.def_cert_text.proofs.plus_texts_tell_their_numbers.Goals as goal
-
-pub returns : goal.returns
-returns c = plus_tell

@@ -1,5 +1,0 @@
-use Rattle.def_cert_text.proofs.TextLaws.{versioned_tell}
-use Rattle.def_cert_text.proofs.texts_tell_versions.Goals as goal
-
-pub returns : goal.returns
-returns c = versioned_tell

@@ -1,5 +1,0 @@
-use Rattle.def_cert_verdict.proofs.VerdictIsExact.{exact}
-use Rattle.def_cert_verdict.proofs.laws.acceptance_is_exact.Goals as goal
-
-pub returns : goal.returns
-returns c = exact

@@ -1,5 +1,0 @@
-use Rattle.def_cert_verdict.proofs.Shown.{accepted}
-use Rattle.def_cert_verdict.proofs.laws.accepted_certificates_show_their_bounds.Goals as goal
-
-pub returns : goal.returns
-returns c = accepted

@@ -1,5 +1,0 @@
-use Rattle.def_cert_verdict.proofs.Shown.{shown_where_they_hold}
-use Rattle.def_cert_verdict.proofs.laws.bounds_that_hold_up_are_shown.Goals as goal
-
-pub returns : goal.returns
-returns c = shown_where_they_hold

@@ -1,5 +1,0 @@
-use Rattle.def_cert_verdict.proofs.FirstFailure.{first_failure}
-use Rattle.def_cert_verdict.proofs.laws.the_first_failure_decides.Goals as goal
-
-pub returns : goal.returns
-returns c = first_failure

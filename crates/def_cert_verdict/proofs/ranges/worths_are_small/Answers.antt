@@ -1,5 +1,0 @@
-use Rattle.def_cert_verdict.proofs.Sizes.{worths}
-use Rattle.def_cert_verdict.proofs.ranges.worths_are_small.Goals as goal
-
-pub returns : goal.returns
-returns c = worths

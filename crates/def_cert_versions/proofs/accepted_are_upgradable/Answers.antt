@@ -1,5 +1,0 @@
-use Rattle.def_cert_versions.proofs.Upgrades.{upgradable as proved}
-use Rattle.def_cert_versions.proofs.accepted_are_upgradable.Goals as goal
-
-pub returns : goal.returns
-returns c = proved

@@ -1,5 +1,0 @@
-use Rattle.def_cert_versions.proofs.Upgrades.{upgraded_texts as proved}
-use Rattle.def_cert_versions.proofs.upgraded_texts_are_accepted.Goals as goal
-
-pub returns : goal.returns
-returns c = proved

@@ -1,5 +1,0 @@
-use Rattle.def_cert_versions.proofs.VersionedVerdict.{upgrades}
-use Rattle.def_cert_versions.proofs.upgrades_are_accepted.Goals as goal
-
-pub returns : goal.returns
-returns c = upgrades

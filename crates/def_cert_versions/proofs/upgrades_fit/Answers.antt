@@ -1,5 +1,0 @@
-use Rattle.def_cert_versions.proofs.Upgrades.{upgrades_fit as proved}
-use Rattle.def_cert_versions.proofs.upgrades_fit.Goals as goal
-
-pub returns : goal.returns
-returns c = proved

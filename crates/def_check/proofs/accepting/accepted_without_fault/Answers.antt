@@ -1,5 +1,0 @@
-use Rattle.def_check.proofs.FileAccepted.{accepted_whole_file}
-use Rattle.def_check.proofs.accepting.accepted_without_fault.Goals as goal
-
-pub returns : goal.returns
-returns c = accepted_whole_file

@@ -1,5 +1,0 @@
-use Rattle.def_check.proofs.FileAccepted.{reading_is}
-use Rattle.def_check.proofs.accepting.reading_is_exact.Goals as goal
-
-pub returns : goal.returns
-returns c = reading_is

@@ -1,5 +1,0 @@
-use Rattle.def_check.proofs.FileAccepted.{first_refused}
-use Rattle.def_check.proofs.accepting.refused_with_the_first.Goals as goal
-
-pub returns : goal.returns
-returns c = first_refused

@@ -1,5 +1,0 @@
-use Rattle.def_constant_sum.proofs.Payments.{in_weights}
-use Rattle.def_constant_sum.proofs.weights_pay_the_expected.Goals as goal
-
-pub returns : goal.returns
-returns c = in_weights

@@ -1,5 +1,0 @@
-use Rattle.def_file.proofs.EntryFaults.{entry_fault_is_first_broken}
-use Rattle.def_file.proofs.entries.entry_fault_is_first_broken.Goals as goal
-
-pub returns : goal.returns
-returns c = entry_fault_is_first_broken

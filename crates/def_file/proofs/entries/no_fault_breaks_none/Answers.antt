@@ -1,5 +1,0 @@
-use Rattle.def_file.proofs.EntryFaults.{no_fault_breaks_none}
-use Rattle.def_file.proofs.entries.no_fault_breaks_none.Goals as goal
-
-pub returns : goal.returns
-returns c = no_fault_breaks_none

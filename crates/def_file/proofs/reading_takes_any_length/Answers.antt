@@ -1,5 +1,0 @@
-use Rattle.def_file.proofs.AnyLength.{game_any_length}
-use Rattle.def_file.proofs.reading_takes_any_length.Goals as goal
-
-pub returns : goal.returns
-returns c = game_any_length

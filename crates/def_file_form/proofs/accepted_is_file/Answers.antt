@@ -1,5 +1,0 @@
-use Rattle.def_file_form.proofs.FileReadingIsExact.{game_read}
-use Rattle.def_file_form.proofs.accepted_is_file.Goals as goal
-
-pub returns : goal.returns
-returns c = game_read

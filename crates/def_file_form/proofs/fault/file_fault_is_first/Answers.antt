@@ -1,5 +1,0 @@
-use Rattle.def_file_form.proofs.ReportedFaultIsFirst.{fault_first}
-use Rattle.def_file_form.proofs.fault.file_fault_is_first.Goals as goal
-
-pub returns : goal.returns
-returns c = fault_first

@@ -1,5 +1,0 @@
-use Rattle.def_file_form.proofs.FirstFaultIsReported.{first_faulted}
-use Rattle.def_file_form.proofs.fault.first_is_file_fault.Goals as goal
-
-pub returns : goal.returns
-returns c = first_faulted

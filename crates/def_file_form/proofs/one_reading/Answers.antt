@@ -1,5 +1,0 @@
-use Rattle.def_file_form.proofs.AtMostOneReading.{one_reading}
-use Rattle.def_file_form.proofs.one_reading.Goals as goal
-
-pub returns : goal.returns
-returns c = one_reading

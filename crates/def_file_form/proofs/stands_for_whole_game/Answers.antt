@@ -1,5 +1,0 @@
-use Rattle.def_file_form.proofs.WholeGames.{stands_for_whole_game}
-use Rattle.def_file_form.proofs.stands_for_whole_game.Goals as goal
-
-pub returns : goal.returns
-returns c = stands_for_whole_game

@@ -1,5 +1,0 @@
-use Rattle.def_file_tokens.proofs.PieceLemmas.{pieces_once}
-use Rattle.def_file_tokens.proofs.one_division.Goals as goal
-
-pub returns : goal.returns
-returns c = pieces_once

@@ -1,5 +1,0 @@
-use Rattle.def_file_tokens.proofs.PieceLemmas.{reads_pieces}
-use Rattle.def_file_tokens.proofs.pieces_are_read.Goals as goal
-
-pub returns : goal.returns
-returns c = reads_pieces

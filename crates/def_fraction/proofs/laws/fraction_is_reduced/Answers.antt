@@ -1,5 +1,0 @@
-use Rattle.def_fraction.proofs.FractionLemmas.{fraction_of-reduced}
-use Rattle.def_fraction.proofs.laws.fraction_is_reduced.Goals as goal
-
-pub returns : goal.returns
-returns c = fraction_of-reduced

@@ -1,5 +1,0 @@
-use Rattle.def_fraction.proofs.DivisorLemmas.{IsGcd-gcd}
-use Rattle.def_fraction.proofs.laws.gcd_is_greatest.Goals as goal
-
-pub returns : goal.returns
-returns c = IsGcd-gcd

@@ -1,5 +1,0 @@
-use Rattle.def_fraction.proofs.FractionLemmas.{same_from_value}
-use Rattle.def_fraction.proofs.laws.value_tells_fraction.Goals as goal
-
-pub returns : goal.returns
-returns c = same_from_value

@@ -1,0 +1,5 @@
+use Rattle.def_canon.proofs.RoundTrip.{canon_of_faultless}
+use Rattle.def_game_laws.proofs.canon.canon_of_faultless.Goals as goal
+
+pub returns : goal.returns
+returns c = canon_of_faultless

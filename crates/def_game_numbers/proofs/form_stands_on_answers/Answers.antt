@@ -1,5 +1,0 @@
-use Rattle.def_game_numbers.proofs.Refusals.{stands_on_answers}
-use Rattle.def_game_numbers.proofs.form_stands_on_answers.Goals as goal
-
-pub returns : goal.returns
-returns c = stands_on_answers

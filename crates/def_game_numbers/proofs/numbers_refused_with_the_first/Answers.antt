@@ -1,5 +1,0 @@
-use Rattle.def_game_numbers.proofs.Refusals.{refused_first}
-use Rattle.def_game_numbers.proofs.numbers_refused_with_the_first.Goals as goal
-
-pub returns : goal.returns
-returns c = refused_first

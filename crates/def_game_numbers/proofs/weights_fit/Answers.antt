@@ -1,5 +1,0 @@
-use Rattle.def_game_numbers.proofs.Weighing.{fitting}
-use Rattle.def_game_numbers.proofs.weights_fit.Goals as goal
-
-pub returns : goal.returns
-returns c = fitting

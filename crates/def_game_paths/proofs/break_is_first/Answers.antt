@@ -1,5 +1,0 @@
-use Rattle.def_game_paths.proofs.Breaks.{break_first}
-use Rattle.def_game_paths.proofs.break_is_first.Goals as goal
-
-pub returns : goal.returns
-returns c = break_first

@@ -1,5 +1,0 @@
-use Rattle.def_game_paths.proofs.Counts.{each_sequence_is_in_range as proved}
-use Rattle.def_game_paths.proofs.each_sequence_is_in_range.Goals as goal
-
-pub returns : goal.returns
-returns c = proved

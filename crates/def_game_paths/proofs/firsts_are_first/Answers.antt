@@ -1,5 +1,0 @@
-use Rattle.def_game_paths.proofs.Firsts.{firsts_are_first as proved}
-use Rattle.def_game_paths.proofs.firsts_are_first.Goals as goal
-
-pub returns : goal.returns
-returns c = proved

@@ -1,5 +1,0 @@
-use Rattle.def_game_paths.proofs.Numbers.{numbers_are_known_on_the_way as proved}
-use Rattle.def_game_paths.proofs.numbers_are_known_on_the_way.Goals as goal
-
-pub returns : goal.returns
-returns c = proved

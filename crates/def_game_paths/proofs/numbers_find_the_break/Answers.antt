@@ -1,5 +1,0 @@
-use Rattle.def_game_paths.proofs.Numbers.{numbers_find_the_break as proved}
-use Rattle.def_game_paths.proofs.numbers_find_the_break.Goals as goal
-
-pub returns : goal.returns
-returns c = proved

@@ -1,5 +1,0 @@
-use Rattle.def_game_paths.proofs.Ancestors.{numbers_tell}
-use Rattle.def_game_paths.proofs.numbers_tell_choices.Goals as goal
-
-pub returns : goal.returns
-returns c = numbers_tell

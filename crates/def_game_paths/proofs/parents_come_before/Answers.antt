@@ -1,5 +1,0 @@
-use Rattle.def_game_paths.proofs.Ancestors.{parents_come_before as proved}
-use Rattle.def_game_paths.proofs.parents_come_before.Goals as goal
-
-pub returns : goal.returns
-returns c = proved

@@ -1,5 +1,0 @@
-use Rattle.def_game_paths.proofs.Choices.{sequences_name_choices as proved}
-use Rattle.def_game_paths.proofs.sequences_name_choices.Goals as goal
-
-pub returns : goal.returns
-returns c = proved

@@ -1,5 +1,0 @@
-use Rattle.def_game_scale.proofs.Expected.{fractions-lowest}
-use Rattle.def_game_scale.proofs.all_are_fractions.Goals as goal
-
-pub returns : goal.returns
-returns c = fractions-lowest

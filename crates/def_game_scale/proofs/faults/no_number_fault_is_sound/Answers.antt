@@ -1,5 +1,0 @@
-use Rattle.def_game_scale.proofs.Sound.{sound_numbers}
-use Rattle.def_game_scale.proofs.faults.no_number_fault_is_sound.Goals as goal
-
-pub returns : goal.returns
-returns c = sound_numbers

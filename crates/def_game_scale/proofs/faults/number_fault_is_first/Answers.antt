@@ -1,5 +1,0 @@
-use Rattle.def_game_scale.proofs.First.{number_first}
-use Rattle.def_game_scale.proofs.faults.number_fault_is_first.Goals as goal
-
-pub returns : goal.returns
-returns c = number_first

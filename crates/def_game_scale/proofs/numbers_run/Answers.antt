@@ -1,5 +1,0 @@
-use Rattle.def_game_scale.proofs.Running.{running}
-use Rattle.def_game_scale.proofs.numbers_run.Goals as goal
-
-pub returns : goal.returns
-returns c = running

@@ -1,5 +1,0 @@
-use Rattle.def_game_scale.proofs.Weights.{whole-weights}
-use Rattle.def_game_scale.proofs.weights_are_whole.Goals as goal
-
-pub returns : goal.returns
-returns c = whole-weights

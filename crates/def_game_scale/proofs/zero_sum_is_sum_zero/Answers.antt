@@ -1,5 +1,0 @@
-use Rattle.def_game_scale.proofs.ZeroSum.{as_zero_sum}
-use Rattle.def_game_scale.proofs.zero_sum_is_sum_zero.Goals as goal
-
-pub returns : goal.returns
-returns c = as_zero_sum

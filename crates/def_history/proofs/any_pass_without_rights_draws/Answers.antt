@@ -1,5 +1,0 @@
-use Rattle.def_history.proofs.Drawing.{any_pass_without_rights_draws as proved}
-use Rattle.def_history.proofs.any_pass_without_rights_draws.Goals as goal
-
-pub returns : goal.returns
-returns c = proved

@@ -1,5 +1,0 @@
-use Rattle.def_history.proofs.Ends.{bag_legal}
-use Rattle.def_history.proofs.bag_is_legal.Goals as goal
-
-pub returns : goal.returns
-returns c = bag_legal

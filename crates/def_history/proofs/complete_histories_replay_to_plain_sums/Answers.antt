@@ -1,5 +1,0 @@
-use Rattle.def_history.proofs.Ends.{replays_to_plain_sum}
-use Rattle.def_history.proofs.complete_histories_replay_to_plain_sums.Goals as goal
-
-pub returns : goal.returns
-returns c = replays_to_plain_sum

@@ -1,5 +1,0 @@
-use Rattle.def_history.proofs.Locks.{counts_tell_rights}
-use Rattle.def_history.proofs.counts_tell_rights.Goals as goal
-
-pub returns : goal.returns
-returns c = counts_tell_rights

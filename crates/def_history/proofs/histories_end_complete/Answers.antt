@@ -1,5 +1,0 @@
-use Rattle.def_history.proofs.Ends.{ends_complete}
-use Rattle.def_history.proofs.histories_end_complete.Goals as goal
-
-pub returns : goal.returns
-returns c = ends_complete

@@ -1,5 +1,0 @@
-use Rattle.def_history.proofs.Passes.{cuts_until_no_room as proved}
-use Rattle.def_history.proofs.jobs.cuts_until_no_room.Goals as goal
-
-pub returns : goal.returns
-returns c = proved

@@ -1,5 +1,0 @@
-use Rattle.def_history.proofs.Cuts.{leaves-jobs_of}
-use Rattle.def_history.proofs.jobs.each_leaf_in_one_job.Goals as goal
-
-pub returns : goal.returns
-returns c = leaves-jobs_of

@@ -1,5 +1,0 @@
-use Rattle.std.proofs.Common.{refl}
-use Rattle.def_history.proofs.jobs.job_limit_rows.Goals as goal
-
-pub returns : goal.returns
-returns c = record { at_the_limit = refl; past_the_limit = refl }

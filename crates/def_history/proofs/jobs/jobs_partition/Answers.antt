@@ -1,5 +1,0 @@
-use Rattle.def_history.proofs.Ranges.{partition}
-use Rattle.def_history.proofs.jobs.jobs_partition.Goals as goal
-
-pub returns : goal.returns
-returns c = partition

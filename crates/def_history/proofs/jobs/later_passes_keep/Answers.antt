@@ -1,5 +1,0 @@
-use Rattle.def_history.proofs.Cuts.{passes-pass}
-use Rattle.def_history.proofs.jobs.later_passes_keep.Goals as goal
-
-pub returns : goal.returns
-returns c = passes-pass

@@ -1,5 +1,0 @@
-use Rattle.def_history.proofs.Passes.{only_cuts_change as proved}
-use Rattle.def_history.proofs.jobs.only_cuts_change.Goals as goal
-
-pub returns : goal.returns
-returns c = proved

@@ -1,5 +1,0 @@
-use Rattle.def_history.proofs.Passes.{pass_parts as proved}
-use Rattle.def_history.proofs.jobs.passes_replace.Goals as goal
-
-pub returns : goal.returns
-returns c = proved

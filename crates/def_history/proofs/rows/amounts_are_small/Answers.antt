@@ -1,5 +1,0 @@
-use Rattle.def_history.proofs.Amounts.{amounts_small}
-use Rattle.def_history.proofs.rows.amounts_are_small.Goals as goal
-
-pub returns : goal.returns
-returns c = amounts_small

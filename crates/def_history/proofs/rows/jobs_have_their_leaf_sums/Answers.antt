@@ -1,5 +1,0 @@
-use Rattle.def_history.proofs.JobRows.{jobs_have_their_leaf_sums}
-use Rattle.def_history.proofs.rows.jobs_have_their_leaf_sums.Goals as goal
-
-pub returns : goal.returns
-returns c = jobs_have_their_leaf_sums

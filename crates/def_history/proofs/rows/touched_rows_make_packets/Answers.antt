@@ -1,5 +1,0 @@
-use Rattle.def_history.proofs.JobPackets.{touched_rows_make_packets}
-use Rattle.def_history.proofs.rows.touched_rows_make_packets.Goals as goal
-
-pub returns : goal.returns
-returns c = touched_rows_make_packets

@@ -1,5 +1,0 @@
-use Rattle.def_history.proofs.Leaves.{ends_with_leaf_sums}
-use Rattle.def_history.proofs.rows_end_as_leaf_sums.Goals as goal
-
-pub returns : goal.returns
-returns c = ends_with_leaf_sums

@@ -1,5 +1,0 @@
-use Rattle.def_history.proofs.Packets.{stripes_hold_their_rows}
-use Rattle.def_history.proofs.stripes_hold_their_rows.Goals as goal
-
-pub returns : goal.returns
-returns c = stripes_hold_their_rows

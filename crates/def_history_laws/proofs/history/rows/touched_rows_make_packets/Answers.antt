@@ -1,0 +1,5 @@
+use Rattle.def_history.proofs.JobPackets.{touched_rows_make_packets}
+use Rattle.def_history_laws.proofs.history.rows.touched_rows_make_packets.Goals as goal
+
+pub returns : goal.returns
+returns c = touched_rows_make_packets

@@ -1,5 +1,0 @@
-use Rattle.def_plan.proofs.Adding.{cleared_plans_add_nothing}
-use Rattle.def_plan.proofs.cleared_plans_add_nothing.Goals as goal
-
-pub returns : goal.returns
-returns c = cleared_plans_add_nothing

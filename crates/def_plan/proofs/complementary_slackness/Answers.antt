@@ -1,5 +1,0 @@
-use Rattle.def_plan.proofs.Duality.{complementary_slackness_lem}
-use Rattle.def_plan.proofs.complementary_slackness.Goals as goal
-
-pub returns : goal.returns
-returns c = complementary_slackness_lem

@@ -1,5 +1,0 @@
-use Rattle.def_plan.proofs.Rows.{leaf_sums_add_amounts}
-use Rattle.def_plan.proofs.form_rows.leaf_sums_add_amounts.Goals as goal
-
-pub returns : goal.returns
-returns c = leaf_sums_add_amounts

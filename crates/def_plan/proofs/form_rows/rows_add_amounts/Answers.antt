@@ -1,5 +1,0 @@
-use Rattle.def_plan.proofs.Rows.{rows_add_amounts}
-use Rattle.def_plan.proofs.form_rows.rows_add_amounts.Goals as goal
-
-pub returns : goal.returns
-returns c = rows_add_amounts

@@ -1,5 +1,0 @@
-use Rattle.def_plus.proofs.Multiples.{plans_are_added_times}
-use Rattle.def_plus.proofs.plans_are_added_times.Goals as goal
-
-pub returns : goal.returns
-returns c = plans_are_added_times

@@ -1,5 +1,0 @@
-use Rattle.def_plus.proofs.PlusRegrets.{plus_regrets_are_small}
-use Rattle.def_plus.proofs.plus_regrets_are_small.Goals as goal
-
-pub returns : goal.returns
-returns c = plus_regrets_are_small

@@ -1,5 +1,0 @@
-use Rattle.def_plus.proofs.WeightLaws.{rounds_weigh_their_numbers}
-use Rattle.def_plus.proofs.rounds_weigh_their_numbers.Goals as goal
-
-pub returns : goal.returns
-returns c = rounds_weigh_their_numbers

@@ -1,5 +1,0 @@
-use Rattle.def_plus.proofs.Multiples.{sums_of_multiples_are_plans}
-use Rattle.def_plus.proofs.sums_of_multiples_are_plans.Goals as goal
-
-pub returns : goal.returns
-returns c = sums_of_multiples_are_plans

@@ -1,5 +1,0 @@
-use Rattle.def_plus_run.proofs.PlusRuns.{plus_bounds_are_small}
-use Rattle.def_plus_run.proofs.plus_bounds_are_small.Goals as goal
-
-pub returns : goal.returns
-returns c = plus_bounds_are_small

@@ -1,5 +1,0 @@
-use Rattle.def_plus_run.proofs.PlusRuns.{plus_runs_sum_plans}
-use Rattle.def_plus_run.proofs.plus_runs_sum_plans.Goals as goal
-
-pub returns : goal.returns
-returns c = plus_runs_sum_plans

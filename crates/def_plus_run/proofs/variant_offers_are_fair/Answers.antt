@@ -1,5 +1,0 @@
-use Rattle.def_plus_run.proofs.VariantRuns.{variant_offers_are_fair}
-use Rattle.def_plus_run.proofs.variant_offers_are_fair.Goals as goal
-
-pub returns : goal.returns
-returns c = variant_offers_are_fair

@@ -1,5 +1,0 @@
-use Rattle.def_poker.proofs.Cards.{others_rise}
-use Rattle.def_poker.proofs.others_rise.Goals as goal
-
-pub returns : goal.returns
-returns c = others_rise

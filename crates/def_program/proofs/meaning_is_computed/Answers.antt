@@ -1,5 +1,0 @@
-use Rattle.def_program.proofs.Meant.{meaning_computed}
-use Rattle.def_program.proofs.meaning_is_computed.Goals as goal
-
-pub returns : goal.returns
-returns c = meaning_computed

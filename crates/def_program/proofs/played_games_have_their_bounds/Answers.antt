@@ -1,5 +1,0 @@
-use Rattle.def_program.proofs.Played.{played_games_have_bounds}
-use Rattle.def_program.proofs.played_games_have_their_bounds.Goals as goal
-
-pub returns : goal.returns
-returns c = played_games_have_bounds

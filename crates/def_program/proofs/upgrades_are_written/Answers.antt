@@ -1,5 +1,0 @@
-use Rattle.def_program.proofs.Checked.{upgraded_is}
-use Rattle.def_program.proofs.upgrades_are_written.Goals as goal
-
-pub returns : goal.returns
-returns c = upgraded_is

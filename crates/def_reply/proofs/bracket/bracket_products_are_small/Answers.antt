@@ -1,5 +1,0 @@
-use Rattle.def_reply.proofs.Compares.{product-below}
-use Rattle.def_reply.proofs.bracket.bracket_products_are_small.Goals as goal
-
-pub returns : goal.returns
-returns c = product-below

@@ -1,5 +1,0 @@
-use Rattle.def_reply.proofs.EvaluatedRounds.{rounds}
-use Rattle.def_reply.proofs.bracket.rounds_are_evaluated.Goals as goal
-
-pub returns : goal.returns
-returns c = rounds

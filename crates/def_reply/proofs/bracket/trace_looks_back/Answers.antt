@@ -1,5 +1,0 @@
-use Rattle.def_reply.proofs.TraceLines.{trace_looks_back}
-use Rattle.def_reply.proofs.bracket.trace_looks_back.Goals as goal
-
-pub returns : goal.returns
-returns c = trace_looks_back

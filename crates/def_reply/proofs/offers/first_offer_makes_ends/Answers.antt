@@ -1,5 +1,0 @@
-use Rattle.def_reply.proofs.KeptEnds.{first_offer_makes_ends}
-use Rattle.def_reply.proofs.offers.first_offer_makes_ends.Goals as goal
-
-pub returns : goal.returns
-returns c = first_offer_makes_ends

@@ -1,5 +1,0 @@
-use Rattle.def_reply.proofs.KeptEnds.{kept_ends_are_bounds}
-use Rattle.def_reply.proofs.offers.kept_ends_are_bounds.Goals as goal
-
-pub returns : goal.returns
-returns c = kept_ends_are_bounds

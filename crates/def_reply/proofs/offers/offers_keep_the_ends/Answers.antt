@@ -1,5 +1,0 @@
-use Rattle.def_reply.proofs.KeptEnds.{offers_keep_the_ends}
-use Rattle.def_reply.proofs.offers.offers_keep_the_ends.Goals as goal
-
-pub returns : goal.returns
-returns c = offers_keep_the_ends

@@ -1,5 +1,0 @@
-use Rattle.def_reply.proofs.BoundLaws.{tight_bounds}
-use Rattle.def_reply.proofs.tight_replies_give_bounds.Goals as goal
-
-pub returns : goal.returns
-returns c = tight_bounds

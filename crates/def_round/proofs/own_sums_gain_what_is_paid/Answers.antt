@@ -1,5 +1,0 @@
-use Rattle.def_round.proofs.Gains.{own_sums_gain}
-use Rattle.def_round.proofs.own_sums_gain_what_is_paid.Goals as goal
-
-pub returns : goal.returns
-returns c = own_sums_gain

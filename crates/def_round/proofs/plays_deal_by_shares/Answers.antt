@@ -1,5 +1,0 @@
-use Rattle.def_round.proofs.Plays.{plays_deal_by_shares}
-use Rattle.def_round.proofs.plays_deal_by_shares.Goals as goal
-
-pub returns : goal.returns
-returns c = plays_deal_by_shares

@@ -1,5 +1,0 @@
-use Rattle.def_round.proofs.Plays.{plays_all_units}
-use Rattle.def_round.proofs.plays_give_all_units.Goals as goal
-
-pub returns : goal.returns
-returns c = plays_all_units

@@ -1,5 +1,0 @@
-use Rattle.def_round.proofs.Plays.{plays_each_set}
-use Rattle.def_round.proofs.plays_have_each_set.Goals as goal
-
-pub returns : goal.returns
-returns c = plays_each_set

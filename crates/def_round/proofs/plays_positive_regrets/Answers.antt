@@ -1,5 +1,0 @@
-use Rattle.def_round.proofs.Plays.{plays_positive_regrets}
-use Rattle.def_round.proofs.plays_positive_regrets.Goals as goal
-
-pub returns : goal.returns
-returns c = plays_positive_regrets

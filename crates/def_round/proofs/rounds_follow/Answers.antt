@@ -1,5 +1,0 @@
-use Rattle.def_round.proofs.EachRoundFollows.{rounds_follow}
-use Rattle.def_round.proofs.rounds_follow.Goals as goal
-
-pub returns : goal.returns
-returns c = rounds_follow

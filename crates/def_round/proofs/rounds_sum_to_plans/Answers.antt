@@ -1,5 +1,0 @@
-use Rattle.def_round.proofs.Sums.{rounds_sum_to_plans}
-use Rattle.def_round.proofs.rounds_sum_to_plans.Goals as goal
-
-pub returns : goal.returns
-returns c = rounds_sum_to_plans

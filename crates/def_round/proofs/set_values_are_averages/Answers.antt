@@ -1,5 +1,0 @@
-use Rattle.def_round.proofs.Averages.{set_values_are_averages}
-use Rattle.def_round.proofs.set_values_are_averages.Goals as goal
-
-pub returns : goal.returns
-returns c = set_values_are_averages

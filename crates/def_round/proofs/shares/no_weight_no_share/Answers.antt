@@ -1,5 +1,0 @@
-use Rattle.def_round.proofs.SharesLaws.{no_weight_no_share}
-use Rattle.def_round.proofs.shares.no_weight_no_share.Goals as goal
-
-pub returns : goal.returns
-returns c = no_weight_no_share

@@ -1,5 +1,0 @@
-use Rattle.def_round.proofs.Growth.{regrets_small}
-use Rattle.def_round.proofs.sizes.regrets_are_small.Goals as goal
-
-pub returns : goal.returns
-returns c = regrets_small

@@ -1,5 +1,0 @@
-use Rattle.def_round.proofs.Growth.{regrets_grow_slowly}
-use Rattle.def_round.proofs.sizes.regrets_grow_slowly.Goals as goal
-
-pub returns : goal.returns
-returns c = regrets_grow_slowly

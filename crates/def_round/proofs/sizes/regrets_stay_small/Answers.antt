@@ -1,5 +1,0 @@
-use Rattle.def_round.proofs.Growth.{regrets_stay_small}
-use Rattle.def_round.proofs.sizes.regrets_stay_small.Goals as goal
-
-pub returns : goal.returns
-returns c = regrets_stay_small

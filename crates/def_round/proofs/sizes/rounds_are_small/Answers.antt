@@ -1,5 +1,0 @@
-use Rattle.def_round.proofs.Growth.{rounds_small}
-use Rattle.def_round.proofs.sizes.rounds_are_small.Goals as goal
-
-pub returns : goal.returns
-returns c = rounds_small

@@ -1,5 +1,0 @@
-use Rattle.def_round.proofs.Growth.{deals_within}
-use Rattle.def_round.proofs.sizes.small_regrets_deal_small_products.Goals as goal
-
-pub returns : goal.returns
-returns c = deals_within

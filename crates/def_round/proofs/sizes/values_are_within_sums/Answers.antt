@@ -1,5 +1,0 @@
-use Rattle.def_round.proofs.Trees.{values_within}
-use Rattle.def_round.proofs.sizes.values_are_within_sums.Goals as goal
-
-pub returns : goal.returns
-returns c = values_within

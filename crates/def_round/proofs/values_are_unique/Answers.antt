@@ -1,5 +1,0 @@
-use Rattle.def_round.proofs.Values.{values_are_unique}
-use Rattle.def_round.proofs.values_are_unique.Goals as goal
-
-pub returns : goal.returns
-returns c = values_are_unique

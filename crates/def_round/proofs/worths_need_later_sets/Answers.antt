@@ -1,5 +1,0 @@
-use Rattle.def_round.proofs.Values.{worths_need_later_sets}
-use Rattle.def_round.proofs.worths_need_later_sets.Goals as goal
-
-pub returns : goal.returns
-returns c = worths_need_later_sets

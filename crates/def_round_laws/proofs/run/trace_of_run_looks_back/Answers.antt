@@ -1,0 +1,5 @@
+use Rattle.def_run.proofs.RunLaws.{trace_of_run_looks_back}
+use Rattle.def_round_laws.proofs.run.trace_of_run_looks_back.Goals as goal
+
+pub returns : goal.returns
+returns c = trace_of_run_looks_back

@@ -1,5 +1,0 @@
-use Rattle.def_run.proofs.RunLaws.{ends_are_in_order}
-use Rattle.def_run.proofs.ends_are_in_order.Goals as goal
-
-pub returns : goal.returns
-returns c = ends_are_in_order

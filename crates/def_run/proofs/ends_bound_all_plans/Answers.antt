@@ -1,5 +1,0 @@
-use Rattle.def_run.proofs.RunLaws.{ends_bound_all_plans}
-use Rattle.def_run.proofs.ends_bound_all_plans.Goals as goal
-
-pub returns : goal.returns
-returns c = ends_bound_all_plans

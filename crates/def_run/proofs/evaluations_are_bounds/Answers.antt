@@ -1,5 +1,0 @@
-use Rattle.def_run.proofs.RunLaws.{evaluations_are_bounds}
-use Rattle.def_run.proofs.evaluations_are_bounds.Goals as goal
-
-pub returns : goal.returns
-returns c = evaluations_are_bounds

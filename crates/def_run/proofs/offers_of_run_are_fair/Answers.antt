@@ -1,5 +1,0 @@
-use Rattle.def_run.proofs.RunLaws.{offers_of_run_are_fair}
-use Rattle.def_run.proofs.offers_of_run_are_fair.Goals as goal
-
-pub returns : goal.returns
-returns c = offers_of_run_are_fair

@@ -1,5 +1,0 @@
-use Rattle.def_run.proofs.RunLaws.{trace_of_run_never_widens}
-use Rattle.def_run.proofs.trace_of_run_never_widens.Goals as goal
-
-pub returns : goal.returns
-returns c = trace_of_run_never_widens

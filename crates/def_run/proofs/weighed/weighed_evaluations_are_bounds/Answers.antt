@@ -1,5 +1,0 @@
-use Rattle.def_run.proofs.WeighedEnds.{weighed_evaluations_are_bounds}
-use Rattle.def_run.proofs.weighed.weighed_evaluations_are_bounds.Goals as goal
-
-pub returns : goal.returns
-returns c = weighed_evaluations_are_bounds

@@ -1,5 +1,0 @@
-use Rattle.def_run.proofs.WeighedOutcomes.{weighed_offers_are_fair}
-use Rattle.def_run.proofs.weighed.weighed_offers_are_fair.Goals as goal
-
-pub returns : goal.returns
-returns c = weighed_offers_are_fair

@@ -1,8 +1,0 @@
-use Rattle.std.proofs.Common.{refl}
-use Rattle.def_fraction.specs.Divisors.{gcd}
-use Rattle.def_fraction.specs.Fraction.{fraction_of}
-use Rattle.def_sequence_form.proofs.examples.small_rows.Goals as goal
-
-pub returns : goal.returns
-unfolding gcd fraction_of
-returns c = record { pennies_form = refl; pennies_unit = refl; pennies_mass = refl; one_mover_form = refl; three_actions_sets = refl; three_actions_mass = refl }

@@ -1,5 +1,0 @@
-use Rattle.def_sequence_form.proofs.Sets.{form_is_in_order as proved}
-use Rattle.def_sequence_form.proofs.form_is_in_order.Goals as goal
-
-pub returns : goal.returns
-returns c = proved

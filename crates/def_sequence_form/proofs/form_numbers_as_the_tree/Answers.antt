@@ -1,5 +1,0 @@
-use Rattle.def_sequence_form.proofs.Sets.{form_numbers_as_the_tree as proved}
-use Rattle.def_sequence_form.proofs.form_numbers_as_the_tree.Goals as goal
-
-pub returns : goal.returns
-returns c = proved

@@ -1,5 +1,0 @@
-use Rattle.def_sequence_form.proofs.ListedNodes.{sets_list_their_nodes as proved}
-use Rattle.def_sequence_form.proofs.sets_list_their_nodes.Goals as goal
-
-pub returns : goal.returns
-returns c = proved

@@ -1,5 +1,0 @@
-use Rattle.def_sequence_form.proofs.Leaves.{tree_sets_tell_nodes as proved}
-use Rattle.def_sequence_form.proofs.tree_sets_tell_nodes.Goals as goal
-
-pub returns : goal.returns
-returns c = proved

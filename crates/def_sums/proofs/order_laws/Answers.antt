@@ -1,5 +1,0 @@
-use Rattle.def_sums.proofs.RingLaws.{order_laws}
-use Rattle.def_sums.proofs.order_laws.Goals as goal
-
-pub returns : goal.returns
-returns c = order_laws

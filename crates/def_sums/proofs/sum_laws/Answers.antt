@@ -1,5 +1,0 @@
-use Rattle.def_sums.proofs.SumLaws.{sum_laws}
-use Rattle.def_sums.proofs.sum_laws.Goals as goal
-
-pub returns : goal.returns
-returns c = sum_laws

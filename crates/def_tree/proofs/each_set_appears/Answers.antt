@@ -1,5 +1,0 @@
-use Rattle.def_tree.proofs.Sets.{each_set_appears as each_appears}
-use Rattle.def_tree.proofs.each_set_appears.Goals as goal
-
-pub returns : goal.returns
-returns c = each_appears

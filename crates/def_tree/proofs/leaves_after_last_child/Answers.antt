@@ -1,5 +1,0 @@
-use Rattle.def_tree.proofs.Nesting.{leaves_after_last_child as proved}
-use Rattle.def_tree.proofs.leaves_after_last_child.Goals as goal
-
-pub returns : goal.returns
-returns c = proved

@@ -1,5 +1,0 @@
-use Rattle.def_tree.proofs.Nesting.{leaves_each_once as proved}
-use Rattle.def_tree.proofs.leaves_each_once.Goals as goal
-
-pub returns : goal.returns
-returns c = proved

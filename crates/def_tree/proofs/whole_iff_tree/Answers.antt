@@ -1,5 +1,0 @@
-use Rattle.def_tree.proofs.Lists.{tree_of_whole, whole_of_tree}
-use Rattle.def_tree.proofs.whole_iff_tree.Goals as goal
-
-pub returns : goal.returns
-returns c = λ nodes. (tree_of_whole nodes, whole_of_tree nodes)

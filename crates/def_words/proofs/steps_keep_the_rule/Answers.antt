@@ -1,5 +1,0 @@
-use Rattle.def_words.proofs.Runs.{steps_keep}
-use Rattle.def_words.proofs.steps_keep_the_rule.Goals as goal
-
-pub returns : goal.returns
-returns c = steps_keep

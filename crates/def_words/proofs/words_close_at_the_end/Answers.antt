@@ -1,5 +1,0 @@
-use Rattle.def_words.proofs.CoreRuns.{closes_at_end}
-use Rattle.def_words.proofs.words_close_at_the_end.Goals as goal
-
-pub returns : goal.returns
-returns c = closes_at_end
