@@ -1,3 +1,4 @@
 pub mod Heads
 pub mod Loaded
 pub mod NoFault
+pub mod WrittenLineIsSaid

@@ -15,8 +15,8 @@ use Rattle.def_program.specs.Program.{success}
 use Rattle.def_program.proofs.Batches.{all_told_is, batch_computed}
 use Rattle.xg_batch.specs.Items.{HasAtMost, batch_entry_seen}
 use Rattle.xg_batch.specs.declared.entry.Entry.{Entry}
-use Rattle.xg_run.specs.declared.ending.Ending.{Ending}
-use Rattle.xg_run.specs.declared.ending.Ending.TheVariants.{Done, Refused, Usage, ReadFault, WriteFault, NoMemory}
+use Rattle.xg_load.specs.declared.ending.Ending.{Ending}
+use Rattle.xg_load.specs.declared.ending.Ending.TheVariants.{Done, Refused, ReadFault, WriteFault, NoMemory}
 use Rattle.xg_run.specs.Batches.{HaveContents}
 use Rattle.xg_run.specs.Concludes.{Concludes, Tells}
 
@@ -116,5 +116,4 @@ module _ (settings : Settings) (contents : List (Option (List ℕ))) (entries : 
         record { text = text; means = means_text; read = read; cause = tells.0; front = tells.1 }
     ended NoMemory untouched = untouched
     ended (Refused line) tells = absurd tells
-    ended Usage tells = absurd tells
     ended ReadFault tells = absurd tells

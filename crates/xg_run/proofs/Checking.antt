@@ -1,9 +1,10 @@
 -- How a check ends, by what was read of both files.
-use Rattle.std.proofs.Common.{◌≡◌, ℕ, ◌<◌, ◌≤◌, length, List, Option, Some, None, Ok, Err, refl, sym, ◌∙◌, ap, subst}
+use Rattle.std.proofs.Common.{◌≡◌, ℕ, ◌<◌, ◌≤◌, length, List, Option, Some, None, Ok, Err, refl, sym, ◌∙◌, ap, subst, inl, inr}
 use Rattle.std.specs.Prelude.{IfSome, string_bytes}
 use Rattle.std.proofs.lemmas.Bool.{lt-ltb, le-ltb}
 use Rattle.std.proofs.lemmas.Option.{same_Some}
 use Rattle.def_outside.specs.Calls.{FilesCall, SinkCall, HasNoFault, IsUntouched}
+use Rattle.def_outside.specs.Cause.{next_count}
 use Rattle.def_file.specs.declared.FileFault.TheVariants.{TooLong}
 use Rattle.def_file.specs.Reading.{most_bytes}
 use Rattle.def_cert_verdict.specs.declared.fault.TestFault.TheVariants as test
@@ -21,13 +22,12 @@ use Rattle.xg_check.specs.Answers.{AnswersVerdict}
 use Rattle.xg_check.specs.declared.verdict.CheckFault.{CheckFault}
 use Rattle.xg_check.specs.declared.verdict.CheckFault.TheVariants.{File, Cert, HeadDiffers, NotAPlan, ValueTooGood, ReplyNotTight, TotalDiffers, TraceWidens, SecondDiffers}
 use Rattle.xg_check.specs.declared.verdict.CheckFault.TheVariants as faults
-use Rattle.xg_run.specs.declared.both.BothFault.{BothFault}
-use Rattle.xg_run.specs.declared.both.BothFault.TheVariants as both
-use Rattle.xg_run.specs.declared.ending.Ending.{Ending}
-use Rattle.xg_run.specs.declared.ending.Ending.TheVariants.{Done, Refused, Usage, ReadFault, WriteFault, NoMemory}
+use Rattle.xg_load.specs.declared.ending.Ending.{Ending}
+use Rattle.xg_load.specs.declared.ending.Ending.TheVariants.{Done, Refused, ReadFault, WriteFault, NoMemory}
+use Rattle.xg_load.specs.Endings.{IsLineIfRoom}
 use Rattle.xg_run.specs.declared.both.Both.{Both}
-use Rattle.xg_run.specs.BothRead.{HaveLengthsWithin, BothHaveCause, ReadsBoth}
-use Rattle.xg_run.specs.ChecksEnd.{EndsCheck, EndsUnread}
+use Rattle.xg_run.specs.BothRead.{ReadsBoth}
+use Rattle.xg_run.specs.ChecksEnd.{EndsCheck}
 use Rattle.xg_run.specs.RefusalLine.{IsCheckLine}
 use Rattle.xg_run.specs.Concludes.{Concludes}
 
@@ -146,20 +146,18 @@ module _ (text : Verdict → List ℕ) (meant : Answer → Type 0) (files : File
     untouched = is.untouched;
   }
   bytes_checked NoMemory is = is
-  bytes_checked Usage is = absurd is
   bytes_checked ReadFault is = absurd is
 
 -- both were read, as far as they are told
 pub both_checked : (text : List ℕ → Verdict → List ℕ) (file certificate : Option (List ℕ)) (files : FilesCall)
     (out : SinkCall) (it : Both) (f c : List ℕ) → f ≡ it.file.items → c ≡ it.certificate.items
-    → ReadsBoth file certificate (Ok it) → HaveLengthsWithin it
-    → BothHaveCause files.faults.before files.faults.now (Ok it) → (ending : Ending) → EndsCheck (text c) f c out ending
+    → ReadsBoth file certificate files (Ok it) → (ending : Ending) → EndsCheck (text c) f c out ending
     → Concludes (Unit {0}) (BothMean text file certificate) files out ending
-both_checked text file certificate files out it f c same_f same_c reads within cause ending ends =
+both_checked text file certificate files out it f c same_f same_c (has, read) ending ends =
     bytes_checked (text it.certificate.items) (BothMean text file certificate) files out it.file.items
     it.certificate.items
-    (only_checked text it.file.items it.certificate.items within.file within.certificate file certificate reads.0 reads.1)
-    cause ending
+    (only_checked text it.file.items it.certificate.items has.small_file has.small_certificate file certificate has.file_is has.certificate_is)
+    read ending
     (subst (λ (b : List ℕ). EndsCheck (text it.certificate.items) b it.certificate.items out ending) same_f
     (subst (λ (b : List ℕ). EndsCheck (text b) f b out ending) same_c ends))
 
@@ -190,33 +188,46 @@ module _ (text : List ℕ → Verdict → List ℕ) (file certificate : Option (
           only_told text bytes (Some others) (refusal cert_long_line) (long_told text bytes short others told)
 
   -- one of both wasn't read
-  pub not_both : (why : BothFault) (ending : Ending) → EndsUnread why ending → ReadsBoth file certificate (Err why)
-      → (why ≡ both.FileTooLong → most_bytes < files.taken)
-      → (why ≡ both.CertificateTooLong → most_cert_bytes < files.taken)
-      → BothHaveCause files.faults.before files.faults.now (Err why) → Concludes (Unit {0}) meant files out ending
-  not_both both.FileTooLong (Refused line) is told taken other cause = record {
-    means = λ answer means. long_file told answer means ∙ ap refusal (sym is);
-    fits = lines.of_file TooLong refl is (λ _. taken refl);
-    read = cause;
+  pub not_both : (ending : Ending) → ReadsBoth file certificate files (Err ending)
+      → Concludes (Unit {0}) meant files out ending
+  not_both (Refused line) (inl is, read) = record {
+    means = λ answer means. long_file is.long answer means ∙ ap refusal (sym is.line_is);
+    fits = lines.of_file TooLong refl is.line_is (λ _. is.taken);
+    read = read;
     untouched = untouched;
   }
-  not_both both.CertificateTooLong (Refused line) is told other taken cause = record {
-    means = λ answer means. long_certificate told.0 told.1 answer means ∙ ap refusal (sym is);
-    fits = lines.of_long_certificate tt refl is (taken refl);
-    read = cause;
+  not_both (Refused line) (inr is, read) = record {
+    means = λ answer means. long_certificate is.short is.long answer means ∙ ap refusal (sym is.line_is);
+    fits = lines.of_long_certificate tt refl is.line_is is.taken;
+    read = read;
     untouched = untouched;
   }
-  not_both both.FileTooLong NoMemory is told taken other cause = untouched
-  not_both both.CertificateTooLong NoMemory is told taken other cause = untouched
-  not_both both.FileTooLong Done is told taken other cause = absurd is
-  not_both both.FileTooLong Usage is told taken other cause = absurd is
-  not_both both.FileTooLong ReadFault is told taken other cause = absurd is
-  not_both both.FileTooLong WriteFault is told taken other cause = absurd is
-  not_both both.CertificateTooLong Done is told taken other cause = absurd is
-  not_both both.CertificateTooLong Usage is told taken other cause = absurd is
-  not_both both.CertificateTooLong ReadFault is told taken other cause = absurd is
-  not_both both.CertificateTooLong WriteFault is told taken other cause = absurd is
-  not_both both.ReadFault ending is told taken other cause =
-      subst (λ (e : Ending). Concludes (Unit {0}) meant files out e) (sym is) (record { cause = cause; untouched = untouched })
-  not_both both.NoMemory ending is told taken other cause =
-      subst (λ (e : Ending). Concludes (Unit {0}) meant files out e) (sym is) untouched
+  not_both ReadFault cause = record { cause = cause; untouched = untouched }
+  not_both NoMemory read = untouched
+  not_both Done is = absurd is
+  not_both WriteFault is = absurd is
+
+-- ---- reading both
+
+-- a file that is too long ends the run before the certificate is opened
+pub file_too_long : (file certificate : Option (List ℕ)) (files : FilesCall) (ending : Ending)
+    → IsLineIfRoom (fault_line TooLong) ending → IfSome file (λ bytes. most_bytes < length bytes)
+    → most_bytes < files.taken → files.opens_now ≡ next_count files.opens_before → HasNoFault files.faults
+    → ReadsBoth file certificate files (Err ending)
+file_too_long file certificate files (Refused line) is long taken alone read =
+    (inl (record { line_is = is; long = long; taken = taken; alone = alone }), read)
+file_too_long file certificate files NoMemory is long taken alone read = read
+file_too_long file certificate files Done is long taken alone read = absurd is
+file_too_long file certificate files ReadFault is long taken alone read = absurd is
+file_too_long file certificate files WriteFault is long taken alone read = absurd is
+
+pub certificate_too_long : (file certificate : Option (List ℕ)) (files : FilesCall) (ending : Ending)
+    → IsLineIfRoom cert_long_line ending → IfSome file (λ bytes. length bytes ≤ most_bytes)
+    → IfSome certificate (λ bytes. most_cert_bytes < length bytes) → most_cert_bytes < files.taken
+    → HasNoFault files.faults → ReadsBoth file certificate files (Err ending)
+certificate_too_long file certificate files (Refused line) is short long taken read =
+    (inr (record { line_is = is; short = short; long = long; taken = taken }), read)
+certificate_too_long file certificate files NoMemory is short long taken read = read
+certificate_too_long file certificate files Done is short long taken read = absurd is
+certificate_too_long file certificate files ReadFault is short long taken read = absurd is
+certificate_too_long file certificate files WriteFault is short long taken read = absurd is

@@ -1,16 +1,17 @@
 -- What the status of an ending shows, by the endings.
-use Rattle.std.proofs.Common.{◌≡◌, ◌≢◌, ℕ, ◌<◌, ◌≤◌, List, [], refl, sym, subst, inl, inr, arith}
-use Rattle.std.specs.Prelude.{string_bytes}
+use Rattle.std.proofs.Common.{◌≡◌, ◌≢◌, ℕ, ◌<◌, ◌≤◌, List, [], Option, Some, None, refl, sym, subst, inl, inr, arith}
+use Rattle.std.specs.Prelude.{IsNone, string_bytes}
 use Rattle.def_outside.specs.Calls.{FilesCall, SinkCall, HasFailed, HasFailedOnce, MayHaveFailed, Wrote, WroteFront, WroteNothing, IsUntouched}
 use Rattle.def_outside.proofs.Fronts.{once_may}
 use Rattle.def_program.specs.TextLines.{usage_line, read_line, write_line, memory_line}
 use Rattle.def_program.specs.Program.{Answer, success, refusal, usage}
 use Rattle.def_program.specs.Meaning.{EachMeant, EndsWith, MeansOnly}
 use Rattle.def_program.specs.Lines.{IsLine, of_words, of_reading, of_writing, of_memory}
-use Rattle.xg_run.specs.declared.ending.Ending.{Ending}
-use Rattle.xg_run.specs.declared.ending.Ending.TheVariants.{Done, Refused, Usage, ReadFault, WriteFault, NoMemory}
-use Rattle.xg_run.specs.Endings.{status_of, line_at_end}
-use Rattle.xg_run.specs.Concludes.{Concludes, IsDone, IsRefused, IsUsage, IsUnread, IsCut}
+use Rattle.xg_load.specs.declared.ending.Ending.{Ending}
+use Rattle.xg_load.specs.declared.ending.Ending.TheVariants.{Done, Refused, ReadFault, WriteFault, NoMemory}
+use Rattle.xg_load.specs.Endings.{status_of, line_at_end}
+use Rattle.xg_run.specs.Endings.{line_said, status_answered}
+use Rattle.xg_run.specs.Concludes.{Concludes, ConcludesWords, IsDone, IsRefused, IsUsage, IsUnread, IsCut}
 
 -- the promises of the status, and of the line that goes with it
 pub record KeepsStatus (checks : Type 0) (meant : Answer → Type 0) (files : FilesCall) (out : SinkCall)
@@ -136,26 +137,43 @@ module _ (checks : Type 0) (meant : Answer → Type 0) (files : FilesCall) (out 
       → KeepsStatus checks meant files out (status_of ending) (line_at_end ending)
   shown Done is = done is
   shown (Refused line) is = said (string_bytes line) is
-  shown Usage is = unknown is
   shown ReadFault is = unread is
   shown WriteFault is = cut is
   shown NoMemory is = without_memory is
 
-  -- the same of a number that is its status
-  pub status_shown : (ending : Ending) → Concludes checks meant files out ending → (status : ℕ)
-      → status ≡ status_of ending
-      → KeepsStatus checks meant files out status (line_at_end ending)
+  -- the same of words that may name no command
+  shown_of_words : (ending : Option Ending) → ConcludesWords checks meant files out ending
+      → KeepsStatus checks meant files out (status_answered ending) (line_said ending)
+  shown_of_words (Some ending) is = shown ending is
+  shown_of_words None is = unknown is
+
+  -- and of a number that is the status
+  pub status_shown : (ending : Option Ending) → ConcludesWords checks meant files out ending → (status : ℕ)
+      → status ≡ status_answered ending → KeepsStatus checks meant files out status (line_said ending)
   status_shown ending is status same =
-      subst (λ (n : ℕ). KeepsStatus checks meant files out n (line_at_end ending)) (sym same) (shown ending is)
+      subst (λ (n : ℕ). KeepsStatus checks meant files out n (line_said ending)) (sym same) (shown_of_words ending is)
 
 -- the status of an ending is one of 0 to 5
-pub status_range : (ending : Ending) (status : ℕ) → status ≡ status_of ending → status ≤ 5
+pub status_range : (ending : Option Ending) (status : ℕ) → status ≡ status_answered ending → status ≤ 5
 status_range ending status same = subst (λ (n : ℕ). n ≤ 5) (sym same) (by_ending ending)
   where
-    by_ending : (e : Ending) → status_of e ≤ 5
-    by_ending Done = omega arith
-    by_ending (Refused line) = omega arith
-    by_ending Usage = omega arith
-    by_ending ReadFault = omega arith
-    by_ending WriteFault = omega arith
-    by_ending NoMemory = omega arith
+    by_ending : (e : Option Ending) → status_answered e ≤ 5
+    by_ending None = omega arith
+    by_ending (Some Done) = omega arith
+    by_ending (Some (Refused line)) = omega arith
+    by_ending (Some ReadFault) = omega arith
+    by_ending (Some WriteFault) = omega arith
+    by_ending (Some NoMemory) = omega arith
+
+-- and it is 2 where there is none
+pub no_ending : (ending : Option Ending) → status_answered ending ≡ 2 → IsNone ending
+no_ending None is = refl
+no_ending (Some Done) is = absurd cc
+no_ending (Some (Refused line)) is = absurd cc
+no_ending (Some ReadFault) is = absurd cc
+no_ending (Some WriteFault) is = absurd cc
+no_ending (Some NoMemory) is = absurd cc
+
+pub status_2 : (ending : Option Ending) → IsNone ending → status_answered ending ≡ 2
+status_2 None is = refl
+status_2 (Some ending) is = absurd cc

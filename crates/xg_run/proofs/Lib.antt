@@ -1,4 +1,3 @@
-pub mod WrittenLineIsSaid
 pub mod Solved
 pub mod ExitStatusLaws
 pub mod WordsMeanTheirCommand

@@ -14,8 +14,8 @@ use Rattle.def_program.specs.Meaning.{FileMeans, MeansOnly}
 use Rattle.def_program.proofs.Meant.{made_computed}
 use Rattle.xg_game.specs.declared.fault.Refused.TheVariants.{File}
 use Rattle.xg_load.specs.Accepted.{Opens}
-use Rattle.xg_run.specs.declared.ending.Ending.{Ending}
-use Rattle.xg_run.specs.declared.ending.Ending.TheVariants.{Done, Refused, Usage, ReadFault, WriteFault, NoMemory}
+use Rattle.xg_load.specs.declared.ending.Ending.{Ending}
+use Rattle.xg_load.specs.declared.ending.Ending.TheVariants.{Done, Refused, ReadFault, WriteFault, NoMemory}
 use Rattle.xg_run.specs.Concludes.{Concludes, Tells}
 
 module _ (meant : Answer → Type 0) (files : FilesCall) (out : SinkCall) (read : HasNoFault files.faults) where
@@ -28,7 +28,6 @@ module _ (meant : Answer → Type 0) (files : FilesCall) (out : SinkCall) (read 
       record { text = text; means = only; read = read; cause = tells.0; front = tells.1 }
   text_told text only NoMemory untouched = untouched
   text_told text only (Refused line) tells = absurd tells
-  text_told text only Usage tells = absurd tells
   text_told text only ReadFault tells = absurd tells
 
 -- of one-card poker, which has no fault

@@ -12,13 +12,14 @@ use Rattle.def_check.specs.Accepting.{read_as_accepted}
 use Rattle.def_program.specs.Program.{game_answer, refusal, success}
 use Rattle.def_program.specs.Meaning.{FileMeans, MeansOnly}
 use Rattle.def_program.specs.Lines.{of_file}
+use Rattle.def_program.specs.TextLines.{fault_line}
 use Rattle.def_program.proofs.Meant.{file_computed}
 use Rattle.xg_load.specs.declared.loading.LoadFault.{LoadFault}
 use Rattle.xg_load.specs.declared.loading.LoadFault.TheVariants as faults
-use Rattle.xg_run.specs.declared.ending.Ending.{Ending}
-use Rattle.xg_run.specs.declared.ending.Ending.TheVariants.{Done, Refused, Usage, ReadFault, WriteFault, NoMemory}
+use Rattle.xg_load.specs.declared.ending.Ending.{Ending}
+use Rattle.xg_load.specs.declared.ending.Ending.TheVariants.{Done, Refused, ReadFault, WriteFault, NoMemory}
 use Rattle.xg_load.specs.Loads.{Loads, LoadHasCause}
-use Rattle.xg_run.specs.Refusal.{IsRefusal, IsUnloaded}
+use Rattle.xg_load.specs.Endings.{IsLineIfRoom, IsUnloaded}
 use Rattle.def_outside.specs.Cause.{HasCause}
 use Rattle.xg_run.specs.Written.{IsEndingOf}
 use Rattle.xg_run.specs.Concludes.{Concludes, FileTold, IsCut, IsDone, Tells}
@@ -52,11 +53,10 @@ module _ (text : GameFile → List ℕ) (content : Option (List ℕ)) where
     ended WriteFault tells = cut_off tells.0 tells.1
     ended NoMemory untouched = untouched
     ended (Refused line) tells = absurd tells
-    ended Usage tells = absurd tells
     ended ReadFault tells = absurd tells
 
   module _ (files : FilesCall) (out : SinkCall) (untouched : IsUntouched out) where
-    refused : (fault : FileFault) (ending : Ending) → IsRefusal fault ending
+    refused : (fault : FileFault) (ending : Ending) → IsLineIfRoom (fault_line fault) ending
         → Loads content (Err (faults.Refused fault)) → (fault ≡ TooLong → most_bytes < files.taken)
         → HasNoFault files.faults → Concludes ⊥ (FileTold text content) files out ending
     refused fault (Refused line) is loaded counted read = record {
@@ -67,7 +67,6 @@ module _ (text : GameFile → List ℕ) (content : Option (List ℕ)) where
     }
     refused fault NoMemory is loaded counted read = untouched
     refused fault Done is loaded counted read = absurd is
-    refused fault Usage is loaded counted read = absurd is
     refused fault ReadFault is loaded counted read = absurd is
     refused fault WriteFault is loaded counted read = absurd is
 

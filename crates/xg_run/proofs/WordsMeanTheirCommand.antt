@@ -7,7 +7,7 @@ use Rattle.def_outside.specs.Calls.{FilesCall, OpensAtMost, SinkCall}
 use Rattle.def_command.specs.Grammar.{Command, command_of_words, file_words, files_of, named_files}
 use Rattle.def_program.specs.Lines.{IsCheck}
 use Rattle.def_program.specs.Meaning.{IsMeant, Means}
-use Rattle.xg_run.specs.declared.ending.Ending.{Ending}
+use Rattle.xg_load.specs.declared.ending.Ending.{Ending}
 use Rattle.xg_run.specs.Concludes.{Concludes}
 
 module _ (words : List (List ℕ)) (told : List ℕ → Option (List ℕ)) (files : FilesCall) (out : SinkCall) where

@@ -17,8 +17,8 @@ use Rattle.def_program.specs.TextLines.{fault_line}
 use Rattle.xg_engine.specs.State.{EngineState}
 use Rattle.xg_batch.specs.declared.item.Item.{Item}
 use Rattle.xg_batch.specs.declared.item.Item.TheVariants.{Solved, Refused}
-use Rattle.xg_run.specs.declared.batch.BatchFault.{BatchFault}
-use Rattle.xg_run.specs.declared.batch.BatchFault.TheVariants.{ReadFault, NoMemory}
+use Rattle.xg_load.specs.declared.ending.Ending.{Ending}
+use Rattle.xg_load.specs.declared.ending.Ending.TheVariants as endings
 use Rattle.xg_run.specs.declared.batch_text.Part.{Part}
 use Rattle.xg_run.specs.declared.batch_text.Part.TheVariants.{Game, Fault}
 use Rattle.xg_run.specs.declared.certificate.PlayedText.{PlayedText}
@@ -35,10 +35,13 @@ HaveContents room (content ∷ contents) (entry ∷ entries) =
     IfSome content (λ bytes. batch_entry room bytes ≡ entry) × HaveContents (room - entry_bytes entry) contents entries
 
 -- exactly one fault is counted where a file can't be read, and else none
-abbrev pub BatchHasCause : {T : Type 0} → ℕ → ℕ → Result T BatchFault → Type 0
+abbrev pub BatchHasCause : {T : Type 0} → ℕ → ℕ → Result T Ending → Type 0
 BatchHasCause before now (Ok _) = now ≡ before
-BatchHasCause before now (Err ReadFault) = RoseByOne before now
-BatchHasCause before now (Err NoMemory) = now ≡ before
+BatchHasCause before now (Err endings.ReadFault) = RoseByOne before now
+BatchHasCause before now (Err endings.NoMemory) = now ≡ before
+BatchHasCause before now (Err endings.Done) = ⊥
+BatchHasCause before now (Err (endings.Refused line)) = ⊥
+BatchHasCause before now (Err endings.WriteFault) = ⊥
 
 -- ---- writing
 

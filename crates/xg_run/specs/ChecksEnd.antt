@@ -1,19 +1,15 @@
--- What is written of a certificate that is accepted, and how a check ends.
+-- What is written of a certificate that is accepted, and how a check of the bytes of both files ends.
 use Rattle.std.specs.Prelude.{◌≡◌, ℕ, List, Result, Ok, Err, string_bytes}
 use Rattle.def_outside.specs.Calls.{SinkCall, HasFailedOnce, HasNoFault, Wrote, WroteFront, IsUntouched}
 use Rattle.def_cert_verdict.specs.Verdict.{Verdict}
 use Rattle.def_check.specs.Check.{Refusal, checked}
 use Rattle.def_cert_text.specs.declared.fault.CertFault.{CertFault}
 use Rattle.def_cert_text.specs.Versions.{VersionedCertificate}
-use Rattle.def_program.specs.CheckLines.{cert_long_line, refusal_line, upgrade_text, verdict_text}
-use Rattle.def_program.specs.TextLines.{fault_line}
-use Rattle.def_file.specs.declared.FileFault.TheVariants.{TooLong}
+use Rattle.def_program.specs.CheckLines.{refusal_line, upgrade_text, verdict_text}
 use Rattle.xg_run.specs.declared.check.Report.{Report}
 use Rattle.xg_run.specs.declared.check.Report.TheVariants as reports
-use Rattle.xg_run.specs.declared.both.BothFault.{BothFault}
-use Rattle.xg_run.specs.declared.both.BothFault.TheVariants as faults
-use Rattle.xg_run.specs.declared.ending.Ending.{Ending}
-use Rattle.xg_run.specs.declared.ending.Ending.TheVariants.{Done, Refused, Usage, ReadFault, WriteFault, NoMemory}
+use Rattle.xg_load.specs.declared.ending.Ending.{Ending}
+use Rattle.xg_load.specs.declared.ending.Ending.TheVariants.{Done, Refused, ReadFault, WriteFault, NoMemory}
 
 -- the text of what was read, where it is accepted with this verdict
 abbrev pub report_text : Report → Result VersionedCertificate CertFault → Verdict → List ℕ
@@ -47,16 +43,4 @@ EndsCheck text file certificate out Done = WroteReport text file certificate out
 EndsCheck text file certificate out WriteFault = CutReport text file certificate out
 EndsCheck text file certificate out (Refused line) = SaysRefusal file certificate out (string_bytes line)
 EndsCheck text file certificate out NoMemory = IsUntouched out
-EndsCheck text file certificate out Usage = ⊥
 EndsCheck text file certificate out ReadFault = ⊥
-
--- the end where one of both can't be read
-abbrev pub EndsUnread : BothFault → Ending → Type 0
-EndsUnread faults.FileTooLong (Refused line) = string_bytes line ≡ fault_line TooLong
-EndsUnread faults.CertificateTooLong (Refused line) = string_bytes line ≡ cert_long_line
-EndsUnread faults.FileTooLong NoMemory = Unit {0}
-EndsUnread faults.CertificateTooLong NoMemory = Unit {0}
-EndsUnread faults.ReadFault ending = ending ≡ ReadFault
-EndsUnread faults.NoMemory ending = ending ≡ NoMemory
-EndsUnread faults.FileTooLong ending = ⊥
-EndsUnread faults.CertificateTooLong ending = ⊥

@@ -1,13 +1,13 @@
 -- What holds of a command that ends so, whatever the command is. `checks` says whether it checks a certificate, `meant`
 -- which answers are meant by what the files tell.
-use Rattle.std.specs.Prelude.{List, ℕ, Option, IsSomeAnd, string_bytes}
+use Rattle.std.specs.Prelude.{List, ℕ, Option, Some, None, IsSomeAnd, string_bytes}
 use Rattle.def_outside.specs.Calls.{FilesCall, SinkCall, HasFailedOnce, HasNoFault, Wrote, WroteFront, IsUntouched}
 use Rattle.def_file.specs.Content.{GameFile}
 use Rattle.def_program.specs.Program.{Answer, success, refusal, usage}
 use Rattle.def_program.specs.Meaning.{FileMeans, MeansOnly}
 use Rattle.def_program.specs.Lines.{IsLine}
-use Rattle.xg_run.specs.declared.ending.Ending.{Ending}
-use Rattle.xg_run.specs.declared.ending.Ending.TheVariants.{Done, Refused, Usage, ReadFault, WriteFault, NoMemory}
+use Rattle.xg_load.specs.declared.ending.Ending.{Ending}
+use Rattle.xg_load.specs.declared.ending.Ending.TheVariants.{Done, Refused, ReadFault, WriteFault, NoMemory}
 
 -- the text that is meant was written
 pub record IsDone (meant : Answer → Type 0) (files : FilesCall) (out : SinkCall) : Type 0 where
@@ -47,10 +47,14 @@ pub record IsCut (meant : Answer → Type 0) (files : FilesCall) (out : SinkCall
 abbrev pub Concludes : Type 0 → (Answer → Type 0) → FilesCall → SinkCall → Ending → Type 0
 Concludes checks meant files out Done = IsDone meant files out
 Concludes checks meant files out (Refused line) = IsRefused checks meant files out (string_bytes line)
-Concludes checks meant files out Usage = IsUsage meant files out
 Concludes checks meant files out ReadFault = IsUnread files out
 Concludes checks meant files out WriteFault = IsCut meant files out
 Concludes checks meant files out NoMemory = IsUntouched out
+
+-- the same of words that may name no command
+abbrev pub ConcludesWords : Type 0 → (Answer → Type 0) → FilesCall → SinkCall → Option Ending → Type 0
+ConcludesWords checks meant files out (Some ending) = Concludes checks meant files out ending
+ConcludesWords checks meant files out None = IsUsage meant files out
 
 -- what a command that writes this text means of a file's content, where that is told
 abbrev pub FileTold : (GameFile → List ℕ) → Option (List ℕ) → Answer → Type 0
@@ -62,5 +66,4 @@ Tells text out Done = HasNoFault out.faults × Wrote out text
 Tells text out WriteFault = HasFailedOnce out.faults × WroteFront out text
 Tells text out NoMemory = IsUntouched out
 Tells text out (Refused line) = ⊥
-Tells text out Usage = ⊥
 Tells text out ReadFault = ⊥

@@ -1,21 +1,13 @@
--- The exit status of an ending, and the line that it says.
-use Rattle.std.specs.Prelude.{ℕ, List, [], string_bytes}
-use Rattle.def_program.specs.TextLines.{usage_line, read_line, write_line, memory_line}
-use Rattle.xg_run.specs.declared.ending.Ending.{Ending}
-use Rattle.xg_run.specs.declared.ending.Ending.TheVariants.{Done, Refused, Usage, ReadFault, WriteFault, NoMemory}
+-- The exit status and the line of a run whose words are taken or name no command.
+use Rattle.std.specs.Prelude.{ℕ, List, Option, Some, None}
+use Rattle.def_program.specs.TextLines.{usage_line}
+use Rattle.xg_load.specs.Endings.{line_at_end, status_of}
+use Rattle.xg_load.specs.declared.ending.Ending.{Ending}
 
-abbrev pub status_of : Ending → ℕ
-status_of Done = 0
-status_of (Refused line) = 1
-status_of Usage = 2
-status_of ReadFault = 3
-status_of WriteFault = 4
-status_of NoMemory = 5
+abbrev pub status_answered : Option Ending → ℕ
+status_answered (Some ending) = status_of ending
+status_answered None = 2
 
-abbrev pub line_at_end : Ending → List ℕ
-line_at_end Done = []
-line_at_end (Refused line) = string_bytes line
-line_at_end Usage = usage_line
-line_at_end ReadFault = read_line
-line_at_end WriteFault = write_line
-line_at_end NoMemory = memory_line
+abbrev pub line_said : Option Ending → List ℕ
+line_said (Some ending) = line_at_end ending
+line_said None = usage_line

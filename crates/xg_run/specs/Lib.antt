@@ -3,7 +3,6 @@ pub mod ChecksEnd
 pub mod RefusalLine
 pub mod Endings
 pub mod Concludes
-pub mod Refusal
 pub mod Written
 pub mod Engines
 pub mod Batches

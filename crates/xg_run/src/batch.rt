@@ -1,5 +1,5 @@
 //! Solving the games of several files side by side.
-ghost use Rattle.std.specs.Prelude.{◌≡◌, ◌≢◌, ◌+◌, ◌≤◌, All, IfOk, IfSome, IsTrue, length, map};
+ghost use Rattle.std.specs.Prelude.{◌≡◌, ◌+◌, ◌≤◌, All, IfOk, IfSome, IsTrue, length, map};
 ghost use Rattle.def_sums.specs.Limits.{most_workers};
 ghost use Rattle.def_outside.specs.Calls.{OpensAtMost};
 ghost use Rattle.xg_io.specs.Calls.{files_call, sink_call};
@@ -12,7 +12,6 @@ ghost use Rattle.xg_engine.specs.State.{AreWithinLimits};
 ghost use Rattle.xg_batch.specs.Items.{HasAtMost, batch_entry_seen};
 ghost use Rattle.xg_run.specs.Batches.{BatchHasCause, CanBeShown, HaveContents, items_shown};
 ghost use Rattle.xg_run.specs.Concludes.{Concludes, Tells};
-ghost use Rattle.xg_run.specs.Endings.{status_of};
 ghost use Rattle.xg_load.specs.Settings.{settings_seen};
 
 use crate::batch_text::{BatchText, parts_of};
@@ -26,15 +25,6 @@ use std::thread::Threads;
 use xg_batch::{Entry, FileBytes, Item, solve_all};
 use xg_engine::Settings;
 use xg_io::{Files, Gate, ReadAllFault, Sink, read_all, write_paged};
-
-/// Why the files of a batch aren't all read.
-#[derive(Clone, Copy, Debug, PartialEq, Eq)]
-pub(crate) enum BatchFault {
-    /// A file can't be opened or read.
-    ReadFault,
-    /// Memory ran out.
-    NoMemory,
-}
 
 /// Solves the games of several files side by side, and writes their texts in the order of the names.
 ///
@@ -58,7 +48,6 @@ pub fn batch<Rt: Threads + Wait + Sync, F: Files, O: Sink, G: Gate>(
         (AllMean (settings_seen settings) (map (λ name. F.told files.old name.now) names.now))
         (files_call F.Files files.old files.new) (sink_call O.Sink out.old out.new) result }
     ensures opens { OpensAtMost (files_call F.Files files.old files.new) (length names.now) }
-    ensures command { status_of result ≢ 2 }
 {
     match read_entries(alloc, files, names) {
         Ok(entries) => {
@@ -66,17 +55,17 @@ pub fn batch<Rt: Threads + Wait + Sync, F: Files, O: Sink, G: Gate>(
             drop(entries);
             ending
         }
-        Err(BatchFault::ReadFault) => Ending::ReadFault,
-        Err(BatchFault::NoMemory) => Ending::NoMemory,
+        Err(ending) => ending,
     }
 }
 
-/// The entries of the files of these names, which are read one after the other, up to the first that can't be read.
+/// The entries of the files of these names, which are read one after the other, or the end of a run at the first that
+/// can't be read.
 fn read_entries<F: Files>(
     alloc: Global,
     files: &mut F,
     names: &[&str],
-) -> Result<Vec<Entry>, BatchFault>
+) -> Result<Vec<Entry>, Ending>
     requires { All (λ name. IsTrue (F.may_open files.old name.now)) names.now }
     ensures count { IfOk result (λ entries. length entries.items ≡ length names.now) }
     ensures exact { IfOk result (λ entries. HaveContents batch_room
@@ -86,7 +75,7 @@ fn read_entries<F: Files>(
     ensures cause { BatchHasCause (F.faults files.old) (F.faults files.new) result }
 {
     let Ok(mut entries) = Vec::with_capacity(alloc, names.len()) else {
-        return Err(BatchFault::NoMemory);
+        return Err(Ending::NoMemory);
     };
     let mut room = BATCH_ROOM;
     'names: for i in 0..names.len() {
@@ -103,7 +92,7 @@ fn read_entry<F: Files>(
     files: &mut F,
     name: &str,
     room: usize,
-) -> Result<Entry, BatchFault>
+) -> Result<Entry, Ending>
     requires name { IsTrue (F.may_open files.old name.now) }
     requires room { room ≤ batch_room }
     ensures exact { IfOk result (λ entry. IfSome (F.told files.old name.now)
@@ -117,8 +106,8 @@ fn read_entry<F: Files>(
     match read_all(alloc, files, name, room) {
         Ok(bytes) => Ok(Entry::Bytes(FileBytes::of(bytes))),
         Err(ReadAllFault::TooLong) => Ok(Entry::TooLong),
-        Err(ReadAllFault::ReadFault) => Err(BatchFault::ReadFault),
-        Err(ReadAllFault::NoMemory) => Err(BatchFault::NoMemory),
+        Err(ReadAllFault::ReadFault) => Err(Ending::ReadFault),
+        Err(ReadAllFault::NoMemory) => Err(Ending::NoMemory),
     }
 }
 

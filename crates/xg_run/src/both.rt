@@ -1,15 +1,16 @@
 //! Reading a game file and a certificate.
-ghost use Rattle.std.specs.Prelude.{◌≡◌, ◌+◌, ◌<◌, ◌≤◌, IfOk, IsErrOf, IsTrue};
-ghost use Rattle.def_outside.specs.Cause.{next_count};
-ghost use Rattle.def_file.specs.Reading.{most_bytes};
-ghost use Rattle.def_check.specs.Check.{most_cert_bytes};
-ghost use Rattle.xg_run.specs.BothRead.{HaveLengthsWithin, BothHaveCause, ReadsBoth};
+ghost use Rattle.std.specs.Prelude.{◌+◌, ◌≤◌, IsTrue};
+ghost use Rattle.def_program.specs.CheckLines.{cert_long_line};
+ghost use Rattle.xg_io.specs.Calls.{files_call};
+ghost use Rattle.xg_load.specs.Endings.{IsLineIfRoom};
+ghost use Rattle.xg_run.specs.BothRead.{ReadsBoth};
 ghost use Rattle.def_program_opens.specs.MayOpen.{IsNotTooLong};
 
+use crate::ending::Ending;
 use std::alloc::Global;
 use xg_check::MOST_CERT_BYTES;
 use xg_io::{Files, ReadAllFault, read_all};
-use xg_read::MOST_BYTES;
+use xg_read::{FileFault, MOST_BYTES};
 
 /// The bytes of a file and of a certificate.
 #[derive(Drop)]
@@ -18,45 +19,38 @@ pub struct Both {
     pub certificate: Vec<u8>,
 }
 
-/// Why the bytes of both aren't there.
-#[derive(Clone, Copy, Debug, PartialEq, Eq)]
-pub enum BothFault {
-    FileTooLong,
-    CertificateTooLong,
-    /// One of them can't be opened or read.
-    ReadFault,
-    /// Memory ran out.
-    NoMemory,
-}
-
-/// The bytes of both. The certificate of a file that is too long isn't opened.
+/// The bytes of both, or the end of a run where they aren't there. The certificate of a file that is too long isn't
+/// opened.
 pub fn read_both<F: Files>(
     alloc: Global,
     files: &mut F,
     file: &str,
     certificate: &str,
-) -> Result<Both, BothFault>
+) -> Result<Both, Ending>
     requires file { IsTrue (F.may_open files.old file.now) }
     requires certificate { IsNotTooLong (F.told files.old file.now) → IsTrue (F.may_open files.old certificate.now) }
-    ensures exact { ReadsBoth (F.told files.old file.now) (F.told files.old certificate.now) result }
-    ensures within { IfOk result HaveLengthsWithin }
-    ensures file_too_long { IsErrOf result BothFault.FileTooLong → most_bytes < F.taken files.new }
-    ensures certificate_too_long { IsErrOf result BothFault.CertificateTooLong
-        → most_cert_bytes < F.taken files.new }
+    ensures exact { ReadsBoth (F.told files.old file.now) (F.told files.old certificate.now)
+        (files_call F.Files files.old files.new) result }
     ensures opens { F.opens files.new ≤ F.opens files.old + 2 }
-    ensures file_alone { IsErrOf result BothFault.FileTooLong → F.opens files.new ≡ next_count (F.opens files.old) }
-    ensures cause { BothHaveCause (F.faults files.old) (F.faults files.new) result }
 {
     let file = match read_all(alloc, files, file, MOST_BYTES) {
         Ok(bytes) => bytes,
-        Err(ReadAllFault::TooLong) => return Err(BothFault::FileTooLong),
-        Err(ReadAllFault::ReadFault) => return Err(BothFault::ReadFault),
-        Err(ReadAllFault::NoMemory) => return Err(BothFault::NoMemory),
+        Err(ReadAllFault::TooLong) => {
+            return Err(Ending::of_fault(alloc, FileFault::TooLong));
+        }
+        Err(ReadAllFault::ReadFault) => return Err(Ending::ReadFault),
+        Err(ReadAllFault::NoMemory) => return Err(Ending::NoMemory),
     };
     match read_all(alloc, files, certificate, MOST_CERT_BYTES) {
         Ok(certificate) => Ok(Both { file, certificate }),
-        Err(ReadAllFault::TooLong) => Err(BothFault::CertificateTooLong),
-        Err(ReadAllFault::ReadFault) => Err(BothFault::ReadFault),
-        Err(ReadAllFault::NoMemory) => Err(BothFault::NoMemory),
+        Err(ReadAllFault::TooLong) => Err(long_certificate(alloc)),
+        Err(ReadAllFault::ReadFault) => Err(Ending::ReadFault),
+        Err(ReadAllFault::NoMemory) => Err(Ending::NoMemory),
     }
+}
+
+fn long_certificate(alloc: Global) -> Ending
+    ensures { IsLineIfRoom cert_long_line result }
+{
+    Ending::of_line(String::from_str(alloc, "refused 21 CertLong\n"))
 }

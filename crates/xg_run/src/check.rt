@@ -1,5 +1,5 @@
 //! Checking a certificate, and upgrading one that is accepted.
-ghost use Rattle.std.specs.Prelude.{◌≡◌, ◌≢◌, ◌≤◌, ◌++◌, IfOk, IsTrue, Ok, OnErr, length, string_bytes};
+ghost use Rattle.std.specs.Prelude.{◌≤◌, ◌++◌, IsTrue, Ok, length};
 ghost use Rattle.def_fraction.specs.Text.{fraction_text};
 ghost use Rattle.def_outside.specs.Calls.{OpensAtMost};
 ghost use Rattle.xg_io.specs.Calls.{files_call, sink_call};
@@ -12,23 +12,19 @@ ghost use Rattle.def_program.specs.CheckLines.{check_text, upgraded_text, verdic
 ghost use Rattle.def_program.specs.Meaning.{BothMean};
 ghost use Rattle.def_outside.specs.Sinks.{Writes};
 ghost use Rattle.xg_check.specs.Answers.{verdict_of};
-ghost use Rattle.xg_run.specs.ChecksEnd.{EndsCheck, EndsUnread, report_text};
+ghost use Rattle.xg_run.specs.ChecksEnd.{EndsCheck, report_text};
 ghost use Rattle.xg_run.specs.Concludes.{Concludes};
-ghost use Rattle.xg_run.specs.Endings.{status_of};
 ghost use Rattle.def_program_opens.specs.MayOpen.{IsNotTooLong};
-ghost use Rattle.xg_run.specs.Refusal.{IsLineOf};
 
-use crate::both::{BothFault, read_both};
+use crate::both::read_both;
 use crate::certificate::UpgradedText;
 use crate::check_lines::check_fault_line;
 use crate::ending::Ending;
 use crate::playing::ending_of;
-use std::alloc::{AllocError, Global};
+use std::alloc::Global;
 use xg_check::{Accepted, Verdict, accept};
 use xg_frac::{Ratio, put_ratio};
 use xg_io::{Files, Sink, WriteFault, write_all, write_paged};
-use xg_load::fault_line;
-use xg_read::FileFault;
 
 /// What is written of a certificate that is accepted.
 #[derive(Clone, Copy)]
@@ -53,7 +49,6 @@ pub fn check<F: Files, O: Sink>(
         (BothMean check_text (F.told files.old file.now) (F.told files.old certificate.now))
         (files_call F.Files files.old files.new) (sink_call O.Sink out.old out.new) result }
     ensures opens { OpensAtMost (files_call F.Files files.old files.new) 2 }
-    ensures command { status_of result ≢ 2 }
 {
     check_both(alloc, Report::Verdict, file, certificate, files, out)
 }
@@ -72,7 +67,6 @@ pub fn upgrade<F: Files, O: Sink>(
         (BothMean upgraded_text (F.told files.old file.now) (F.told files.old certificate.now))
         (files_call F.Files files.old files.new) (sink_call O.Sink out.old out.new) result }
     ensures opens { OpensAtMost (files_call F.Files files.old files.new) 2 }
-    ensures command { status_of result ≢ 2 }
 {
     check_both(alloc, Report::Upgrade, file, certificate, files, out)
 }
@@ -93,11 +87,10 @@ fn check_both<F: Files, O: Sink>(
         (F.told files.old certificate.now))
         (files_call F.Files files.old files.new) (sink_call O.Sink out.old out.new) result }
     ensures opens { OpensAtMost (files_call F.Files files.old files.new) 2 }
-    ensures command { status_of result ≢ 2 }
 {
     match read_both(alloc, files, file, certificate) {
         Ok(both) => check_bytes(alloc, report, &both.file, &both.certificate, out),
-        Err(fault) => unread(alloc, fault),
+        Err(ending) => ending,
     }
 }
 
@@ -120,7 +113,7 @@ fn check_bytes<O: Sink>(
             drop(accepted);
             ending_of(written)
         }
-        Err(fault) => refused(check_fault_line(alloc, fault)),
+        Err(fault) => Ending::of_line(check_fault_line(alloc, fault)),
     }
 }
 
@@ -139,17 +132,6 @@ fn write_report<O: Sink>(report: Report, accepted: &Accepted, out: &mut O) -> Re
                 cert: &accepted.cert,
             },
         ),
-    }
-}
-
-/// The end of a run with this line, if there was memory for it.
-fn refused(line: Result<String, AllocError>) -> Ending
-    ensures said { IfOk line (λ it. IsLineOf (string_bytes it) result) }
-    ensures no_memory { OnErr line (result ≡ Ending.NoMemory) }
-{
-    match line {
-        Ok(line) => Ending::Refused { line },
-        Err(_) => Ending::NoMemory,
     }
 }
 
@@ -229,16 +211,4 @@ fn write_bound<O: Sink>(high: Ratio, end: &[u8], out: &mut O) -> Result<(), Writ
 {
     put_ratio(high, out)?;
     write_all(out, end)
-}
-
-/// The end where the bytes of both aren't there.
-fn unread(alloc: Global, fault: BothFault) -> Ending
-    ensures { EndsUnread fault result }
-{
-    match fault {
-        BothFault::FileTooLong => refused(fault_line(alloc, FileFault::TooLong)),
-        BothFault::CertificateTooLong => refused(String::from_str(alloc, "refused 21 CertLong\n")),
-        BothFault::ReadFault => Ending::ReadFault,
-        BothFault::NoMemory => Ending::NoMemory,
-    }
 }

@@ -12,14 +12,12 @@ ghost use Rattle.def_program.specs.Bounds.{BoundsHold, ForEachPlayed};
 ghost use Rattle.def_program.specs.Checked.{ForEachChecked};
 ghost use Rattle.def_program.specs.Lines.{IsCheck, SaysLine};
 ghost use Rattle.def_program.specs.Meaning.{EachMeant, EndsWith, Means};
-ghost use Rattle.xg_run.specs.Concludes.{Concludes, FileTold, Tells};
-ghost use Rattle.xg_run.specs.Endings.{status_of};
+ghost use Rattle.xg_run.specs.Concludes.{Concludes, ConcludesWords, FileTold, Tells};
 ghost use Rattle.def_program_opens.specs.MayOpen.{MayOpen};
-ghost use Rattle.xg_run.specs.Refusal.{IsRefusal, IsUnloaded};
 
 use crate::batch::batch;
 use crate::check::{check, upgrade};
-use crate::ending::Ending;
+use crate::ending::{Ending, finish};
 use crate::made::{drill, generate};
 use crate::playing::{ending_of, play};
 use crate::rows::SharedRows;
@@ -32,8 +30,7 @@ use std::thread::Threads;
 use xg_command::{Command, WordSettings, Words};
 use xg_engine::{Settings, Variant};
 use xg_io::{Files, Gate, Sink};
-use xg_load::{AcceptedGame, LoadFault, fault_line, load};
-use xg_read::FileFault;
+use xg_load::{AcceptedGame, load};
 
 /// How many files of a batch are solved at once where no number of workers is given.
 const BATCH_WORKERS: u32 = 4;
@@ -61,11 +58,10 @@ fn solve<Rt: Threads + Wait + Sync, F: Files, O: Sink, G: Gate>(
     ensures concludes { Concludes ⊥ (FileTold (played variant (settings_seen settings)) (F.told files.old file.now))
         (files_call F.Files files.old files.new) (sink_call O.Sink out.old out.new) result }
     ensures opens { OpensAtMost (files_call F.Files files.old files.new) 1 }
-    ensures command { status_of result ≢ 2 }
 {
     match load(alloc, files, file) {
         Ok(accepted) => play(rt, alloc, accepted, variant, settings, rows, out),
-        Err(fault) => unloaded(alloc, fault),
+        Err(fault) => Ending::of_unloaded(alloc, fault),
     }
 }
 
@@ -75,7 +71,6 @@ fn info<F: Files, O: Sink>(alloc: Global, file: &str, files: &mut F, out: &mut O
     ensures concludes { Concludes ⊥ (FileTold info_text (F.told files.old file.now))
         (files_call F.Files files.old files.new) (sink_call O.Sink out.old out.new) result }
     ensures opens { OpensAtMost (files_call F.Files files.old files.new) 1 }
-    ensures command { status_of result ≢ 2 }
 {
     match load(alloc, files, file) {
         Ok(accepted) => {
@@ -83,7 +78,7 @@ fn info<F: Files, O: Sink>(alloc: Global, file: &str, files: &mut F, out: &mut O
             drop(accepted);
             ending
         }
-        Err(fault) => unloaded(alloc, fault),
+        Err(fault) => Ending::of_unloaded(alloc, fault),
     }
 }
 
@@ -97,27 +92,6 @@ fn tell<O: Sink>(alloc: Global, accepted: &AcceptedGame, out: &mut O) -> Ending
     ending_of(write_info(&front, &accepted.head(NO_ROUNDS), out))
 }
 
-/// The end of a run whose game isn't loaded.
-fn unloaded(alloc: Global, fault: LoadFault) -> Ending
-    ensures { IsUnloaded fault result }
-{
-    match fault {
-        LoadFault::Refused(fault) => refused(alloc, fault),
-        LoadFault::ReadFault => Ending::ReadFault,
-        LoadFault::NoMemory => Ending::NoMemory,
-    }
-}
-
-/// The end of a run whose file has this first fault.
-fn refused(alloc: Global, fault: FileFault) -> Ending
-    ensures { IsRefusal fault result }
-{
-    match fault_line(alloc, fault) {
-        Ok(line) => Ending::Refused { line },
-        Err(_) => Ending::NoMemory,
-    }
-}
-
 /// The settings of a command, as the engine takes them.
 fn asked(settings: WordSettings) -> Settings
     ensures { settings_seen result ≡ settings_value settings }
@@ -129,7 +103,7 @@ fn asked(settings: WordSettings) -> Settings
     }
 }
 
-/// Does what the words say, and says nothing of it.
+/// Does what the words say, and says nothing of it, unless they name no command.
 fn conclude<Rt: Threads + Wait + Sync, F: Files, O: Sink, G: Gate>(
     rt: &Rt,
     alloc: Global,
@@ -137,12 +111,12 @@ fn conclude<Rt: Threads + Wait + Sync, F: Files, O: Sink, G: Gate>(
     files: &mut F,
     out: &mut O,
     gate: &G,
-) -> Ending
+) -> Option<Ending>
     requires { MayOpen (F.told files.old) (F.may_open files.old) (command_of_words words.now) }
-    ensures concludes { Concludes (IsCheck (command_of_words words.now)) (Means words.now (F.told files.old))
+    ensures concludes { ConcludesWords (IsCheck (command_of_words words.now)) (Means words.now (F.told files.old))
         (files_call F.Files files.old files.new) (sink_call O.Sink out.old out.new) result }
     ensures opens { OpensAtMost (files_call F.Files files.old files.new) (length (named_files words.now)) }
-    ensures usage { (status_of result ≡ 2) ↔ IsNone (command_of_words words.now) }
+    ensures usage { IsNone result ↔ IsNone (command_of_words words.now) }
 {
     match words.command() {
         Some(
@@ -154,7 +128,7 @@ fn conclude<Rt: Threads + Wait + Sync, F: Files, O: Sink, G: Gate>(
         ) => {
             let rows = SharedRows::of(rows, gate);
             let settings = asked(settings);
-            solve(rt, alloc, file, Variant::Plain, settings, &rows, files, out)
+            Some(solve(rt, alloc, file, Variant::Plain, settings, &rows, files, out))
         }
         Some(
             Command::Plus {
@@ -165,13 +139,13 @@ fn conclude<Rt: Threads + Wait + Sync, F: Files, O: Sink, G: Gate>(
         ) => {
             let rows = SharedRows::of(rows, gate);
             let settings = asked(settings);
-            solve(rt, alloc, file, Variant::Plus, settings, &rows, files, out)
+            Some(solve(rt, alloc, file, Variant::Plus, settings, &rows, files, out))
         }
         Some(Command::Check { file, certificate }) => {
-            check(alloc, file, certificate, files, out)
+            Some(check(alloc, file, certificate, files, out))
         }
         Some(Command::Upgrade { file, certificate }) => {
-            upgrade(alloc, file, certificate, files, out)
+            Some(upgrade(alloc, file, certificate, files, out))
         }
         Some(
             Command::Batch {
@@ -181,7 +155,7 @@ fn conclude<Rt: Threads + Wait + Sync, F: Files, O: Sink, G: Gate>(
             },
         ) => {
             let workers = workers.unwrap_or(BATCH_WORKERS);
-            batch(
+            Some(batch(
                 rt,
                 alloc,
                 &names,
@@ -190,10 +164,10 @@ fn conclude<Rt: Threads + Wait + Sync, F: Files, O: Sink, G: Gate>(
                 files,
                 out,
                 gate,
-            )
+            ))
         }
-        Some(Command::Info { file }) => info(alloc, file, files, out),
-        Some(Command::Gen { cards }) => generate(alloc, cards, out),
+        Some(Command::Info { file }) => Some(info(alloc, file, files, out)),
+        Some(Command::Gen { cards }) => Some(generate(alloc, cards, out)),
         Some(
             Command::Drill {
                 cards,
@@ -202,9 +176,9 @@ fn conclude<Rt: Threads + Wait + Sync, F: Files, O: Sink, G: Gate>(
             },
         ) => {
             let rows = SharedRows::of(rows, gate);
-            drill(rt, alloc, cards, asked(settings), &rows, out)
+            Some(drill(rt, alloc, cards, asked(settings), &rows, out))
         }
-        None => Ending::Usage,
+        None => None,
     }
 }
 
@@ -279,5 +253,5 @@ pub fn run<Rt: Threads + Wait + Sync, F: Files, O: Sink, E: Sink, G: Gate>(
     ensures silent { result ≡ 0 → err.new ≡ err.old }
 {
     let ending = conclude(rt, alloc, words, files, out, gate);
-    ending.finish(err)
+    finish(&ending, err)
 }

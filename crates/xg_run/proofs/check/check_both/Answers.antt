@@ -1,4 +1,4 @@
-use Rattle.std.proofs.Common.{ℕ, List, Err, refl, ap}
+use Rattle.std.proofs.Common.{ℕ, List, refl}
 use Rattle.xg_io.specs.Calls.{files_call, sink_call}
 use Rattle.def_cert_text.specs.CertText.{versioned_in}
 use Rattle.def_cert_verdict.specs.Verdict.{Verdict}
@@ -14,7 +14,7 @@ returns-in-Ok-clause-concludes g c =
     (files_call g.F.Files c.args.files.now c.read_both.new.files)
     (sink_call g.O.Sink c.args.out.now c.check_bytes.new.out)
     c.in-Ok.both c.deref.result.now c.deref-in-Ok.result.now c.deref.ensures.value c.deref-in-Ok.ensures.value
-    c.in-Ok.ensures.exact c.in-Ok.ensures.within c.in-Ok.ensures.cause c.check_bytes.result c.check_bytes.ensures
+    c.in-Ok.ensures.exact c.check_bytes.result c.check_bytes.ensures
 
 pub returns-in-Err-clause-concludes : goal.returns-in-Err-clause-concludes
 returns-in-Err-clause-concludes g c =
@@ -23,6 +23,4 @@ returns-in-Err-clause-concludes g c =
     (g.F.Files.told c.args.files.now c.args.certificate.now)
     (files_call g.F.Files c.args.files.now c.read_both.new.files)
     (sink_call g.O.Sink c.args.out.now c.args.out.now) (refl, refl)
-    c.in-Err.fault c.unread.result c.unread.ensures c.in-Err.ensures.exact
-    (λ e. c.in-Err.ensures.file_too_long (ap Err e)) (λ e. c.in-Err.ensures.certificate_too_long (ap Err e))
-    c.in-Err.ensures.cause
+    c.in-Err.ending c.in-Err.ensures.exact

@@ -8,8 +8,8 @@ use Rattle.def_program.specs.Lines.{IsCheck}
 use Rattle.def_program.specs.Meaning.{Means}
 use Rattle.def_program.proofs.Checked.{each_checked}
 use Rattle.def_program.proofs.Played.{each_played}
-use Rattle.xg_run.specs.Endings.{line_at_end}
-use Rattle.xg_run.proofs.ExitStatusLaws.{KeepsStatus, status_shown, status_range}
+use Rattle.xg_run.specs.Endings.{line_said}
+use Rattle.xg_run.proofs.ExitStatusLaws.{KeepsStatus, no_ending, status_2, status_shown, status_range}
 use Rattle.xg_run.proofs.program.run.Goals as goal
 
 pub returns : goal.returns
@@ -23,11 +23,11 @@ returns g c =
     let ending = c.conclude-ending.result in
     let usage = c.conclude-ending.ensures.usage in
     let status = c.finish.ensures.status in
-    let shows : KeepsStatus (IsCheck (command_of_words words)) meant files out c.finish.result (line_at_end ending) =
+    let shows : KeepsStatus (IsCheck (command_of_words words)) meant files out c.finish.result (line_said ending) =
     status_shown (IsCheck (command_of_words words)) meant files out ending c.conclude-ending.ensures.concludes c.finish.result status in
     record {
       range = status_range ending c.finish.result status;
-      words = (λ is. usage.0 (sym status ∙ is), λ none. status ∙ usage.1 none);
+      words = (λ is. usage.0 (no_ending ending (sym status ∙ is)), λ none. status ∙ status_2 ending (usage.1 none));
       refused = shows.refused;
       complete = shows.complete;
       read_fault = shows.read_fault;
@@ -41,7 +41,7 @@ returns g c =
       played = λ is. each_played words told out BoundsHold (λ game variant scale b it. it) (shows.whole is);
       checked = λ is. each_checked words told out BoundsHold (λ game variant scale b it. it) (shows.whole is);
       line = λ other. record {
-        line = line_at_end ending;
+        line = line_said ending;
         fits = shows.fits other;
         answered = shows.answered;
         said = c.finish.ensures.said (λ is. other (status ∙ is));

@@ -18,5 +18,5 @@ returns-in-Err-clause-concludes g c =
     turned_down (played c.args.variant (settings_seen c.args.settings)) (g.F.Files.told c.args.files.now c.args.file.now)
     (files_call g.F.Files c.args.files.now c.load.new.files)
     (sink_call g.O.Sink c.args.out.now c.args.out.now) (refl, refl)
-    c.in-Err.fault c.unloaded.result c.unloaded.ensures c.in-Err.ensures.exact
+    c.in-Err.fault c.of_unloaded.result c.of_unloaded.ensures c.in-Err.ensures.exact
     (λ e. c.in-Err.ensures.too_long (ap Err e)) c.in-Err.ensures.cause

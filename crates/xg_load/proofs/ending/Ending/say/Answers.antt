@@ -1,8 +1,8 @@
 use Rattle.std.proofs.Common.{List, ℕ, subst}
 use Rattle.def_outside.specs.Calls.{SinkCall, Says}
 use Rattle.xg_io.specs.Calls.{sink_call}
-use Rattle.xg_run.proofs.WrittenLineIsSaid.{says_of}
-use Rattle.xg_run.proofs.ending.Ending.say.Goals as goal
+use Rattle.xg_load.proofs.WrittenLineIsSaid.{says_of}
+use Rattle.xg_load.proofs.ending.Ending.say.Goals as goal
 
 pub returns : goal.returns
 returns g c =
