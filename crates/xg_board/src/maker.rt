@@ -84,7 +84,13 @@ impl<F: Fn(&RowInput<'_>, &JobTable) -> Result<Rows, AllocError>> RowMaker for M
         (self.make)(input, jobs)
     }
 
-    fn small_rows(&self, _input: &RowInput<'_>, _jobs: &JobTable, _rows: &mut SmallRows) -> bool {
+    fn small_rows<Rt: Threads + Sync>(
+        &self,
+        _rt: &Rt,
+        _input: &RowInput<'_>,
+        _jobs: &JobTable,
+        _rows: &mut SmallRows,
+    ) -> bool {
         false
     }
 }

@@ -74,7 +74,7 @@ impl<'a, Rt: Threads + Wait + Sync, M: RowMaker> RowSource<'a, Rt, M> {
         ensures count_two { length rows.new.two ≡ length rows.old.two }
     {
         self.maker
-            .small_rows(&self.input(one, two), self.jobs, rows)
+            .small_rows(self.rt, &self.input(one, two), self.jobs, rows)
     }
 
     // What rows against these plans are made from.

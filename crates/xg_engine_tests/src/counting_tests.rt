@@ -48,9 +48,15 @@ impl RowMaker for CountedRows {
         PlainRows.rows(rt, alloc, input, jobs)
     }
 
-    fn small_rows(&self, input: &RowInput<'_>, jobs: &JobTable, rows: &mut SmallRows) -> bool {
+    fn small_rows<Rt: Threads + Sync>(
+        &self,
+        rt: &Rt,
+        input: &RowInput<'_>,
+        jobs: &JobTable,
+        rows: &mut SmallRows,
+    ) -> bool {
         self.small.fetch_add(1, Ordering::SeqCst);
-        PlainRows.small_rows(input, jobs, rows)
+        PlainRows.small_rows(rt, input, jobs, rows)
     }
 }
 

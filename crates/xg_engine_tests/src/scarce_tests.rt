@@ -47,7 +47,13 @@ impl RowMaker for ScarceRows {
         PlainRows.rows(rt, alloc, input, jobs)
     }
 
-    fn small_rows(&self, _input: &RowInput<'_>, _jobs: &JobTable, _rows: &mut SmallRows) -> bool {
+    fn small_rows<Rt: Threads + Sync>(
+        &self,
+        _rt: &Rt,
+        _input: &RowInput<'_>,
+        _jobs: &JobTable,
+        _rows: &mut SmallRows,
+    ) -> bool {
         false
     }
 }

@@ -8,6 +8,7 @@ mod Counting
 mod Placing
 mod OneEntry
 pub mod Greatest
+pub mod TwoParts
 mod Building
 mod FormRows
 mod StandingTrees

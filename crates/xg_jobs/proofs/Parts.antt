@@ -71,7 +71,7 @@ parts_more starts entries x n b = row_more (λ s. group_part (slice_index x s) (
         ap (sum_over f) (range-append 0 n 1) ∙ sum_over-append f (range_with_len 0 n) (range_with_len (0 + n) 1)
         ∙ ap (λ t. sum_over f (range_with_len 0 n) +ℤ t) (+ℤ-zero (f (0 + n))) ∙ ap (λ k. sum_over f (range_with_len 0 n) +ℤ f k) (omega arith)
 
-mass_more : (starts : List ℕ) (entries : List GroupLeaf) (n : ℕ)
+pub mass_more : (starts : List ℕ) (entries : List GroupLeaf) (n : ℕ)
     → groups_mass starts entries (n + 1) ≡ groups_mass starts entries n + group_mass (group_at starts entries n)
 mass_more starts entries n = row_more (λ s. group_mass (group_at starts entries s)) n
   where

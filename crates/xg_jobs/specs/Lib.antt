@@ -2,6 +2,7 @@ pub mod Rows
 pub mod Table
 pub mod Ranges
 pub mod Groups
+pub mod Adding
 pub mod Grouping
 pub mod Writing
 pub mod Cutting

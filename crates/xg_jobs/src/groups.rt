@@ -1,5 +1,6 @@
 //! The groups of player one's sequences, with the smallest entries that have room.
 ghost use Rattle.std.specs.Prelude.{◌≡◌, ◌↔◌, ◌*◌, ◌^◌, ◌<◌, ◌≤◌, max, All, IfOk, IsTrue, length, map};
+ghost use Rattle.std.specs.Thread.{IsSync};
 ghost use Rattle.def_sums.specs.Limits.{most_root};
 ghost use Rattle.def_tree.specs.declared.Player.TheVariants.{One};
 ghost use Rattle.def_tree.specs.Opponent.{opponent};
@@ -18,12 +19,15 @@ use crate::input::{PlayerInput, RowInput};
 use crate::merging::{Grouped, merged};
 use crate::packing::MergedEntry;
 use crate::rows::{Rows, SmallRows};
+use crate::sharing::write_small_rows_by_threads;
 use crate::sizes::{greatest_number, total_mass};
+use crate::spare::SpareRows;
 use crate::writing::{write_alone, write_rows, write_small_rows};
 use def_sums::MOST_ROOT;
 use def_tree::Player;
 use std::alloc::{AllocError, Global};
-use std::marker::Model;
+use std::marker::{Model, Sync};
+use std::thread::Threads;
 use xg_seq::SeqForm;
 
 /// The leaves of each of player one's sequences.
@@ -134,6 +138,45 @@ impl LeafGroups {
             GroupEntries::Tiny(entries) => write_small_rows(starts, entries, input, rows),
             GroupEntries::Small(entries) => write_small_rows(starts, entries, input, rows),
             GroupEntries::Wide(entries) => write_small_rows(starts, entries, input, rows),
+        }
+        true
+    }
+
+    /// The same by several threads where that pays.
+    pub(crate) fn write_small_by_threads<Rt: Threads + Sync>(
+        &self,
+        rt: &Rt,
+        input: &RowInput<'_>,
+        rows: &mut SmallRows,
+        spare: &mut SpareRows,
+    ) -> bool
+        requires sync { IsSync Rt.row }
+        requires groups { self.now.weights ≡ pair_weights input.now.form.now One }
+        requires numbers { AreNumbersOf input.now.form.now input.now.one.now input.now.two.now }
+        requires rows_one { length rows.old.one ≡ sequence_count input.now.form.now.sets_one }
+        requires rows_two { length rows.old.two ≡ sequence_count input.now.form.now.sets_two }
+        ensures fits { let most = max (greatest_of input.now.one.now) (greatest_of input.now.two.now) in
+            IsTrue result ↔ self.now.mass * most < 2 ^ 63 }
+        ensures sums { IsTrue result → ArePlainSums input.now.form.now input.now.one.now input.now.two.now rows.new }
+        ensures count_one { length rows.new.one ≡ length rows.old.one }
+        ensures count_two { length rows.new.two ≡ length rows.old.two }
+    {
+        input.form.facts();
+        let RowInput { one, two, .. } = *input;
+        if !sums_fit_word(self.mass, one, two) {
+            return false;
+        }
+        let starts = &self.starts;
+        match &self.entries {
+            GroupEntries::Tiny(entries) => {
+                write_small_rows_by_threads(rt, starts, entries, input, rows, spare)
+            }
+            GroupEntries::Small(entries) => {
+                write_small_rows_by_threads(rt, starts, entries, input, rows, spare)
+            }
+            GroupEntries::Wide(entries) => {
+                write_small_rows_by_threads(rt, starts, entries, input, rows, spare)
+            }
         }
         true
     }

@@ -1,21 +1,29 @@
 #![tactic(auto)]
 //! The jobs of a game's tree, and the rows of its sequence form: for each sequence the sum over its leaves.
 
+mod adding;
 mod alone;
 mod both;
 mod cutting;
 mod entry;
 mod grouping;
 mod groups;
+mod halves;
 mod input;
 mod maker;
 mod merging;
+mod pace;
 mod packing;
 mod plain;
+mod quarters;
+mod roll;
 mod row;
 mod rows;
+mod sharing;
 mod sizes;
+mod spare;
 mod table;
+mod threaded;
 mod touching;
 mod writing;
 
@@ -25,3 +33,4 @@ pub use plain::PlainRows;
 pub use rows::{Rows, SmallRows};
 pub use sizes::{greatest_number, total_mass};
 pub use table::JobTable;
+pub use threaded::ThreadedRows;

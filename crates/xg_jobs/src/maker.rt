@@ -44,7 +44,14 @@ pub trait RowMaker {
 
     /// Writes the same sums into rows of 64 bits, if the maker makes such rows and it is known that each sum has room
     /// in them; else what is written means nothing. Takes no memory.
-    fn small_rows(&self, input: &RowInput<'_>, jobs: &JobTable, rows: &mut SmallRows) -> bool
+    fn small_rows<Rt: Threads + Sync>(
+        &self,
+        rt: &Rt,
+        input: &RowInput<'_>,
+        jobs: &JobTable,
+        rows: &mut SmallRows,
+    ) -> bool
+        requires sync { IsSync Rt.row }
         requires numbers { AreNumbersOf input.now.form.now input.now.one.now input.now.two.now }
         requires table { HasLeavesOf input.now.form.now jobs.now }
         requires rows_one { length rows.old.one ≡ sequence_count input.now.form.now.sets_one }

@@ -1,5 +1,6 @@
 //! Rows by one loop, without workers.
 ghost use Rattle.std.specs.Prelude.{◌≡◌, ◌↔◌, ◌*◌, ◌^◌, ◌<◌, max, true, IsTrue, length};
+ghost use Rattle.std.specs.Thread.{IsSync};
 ghost use Rattle.def_plan.specs.Form.{sequence_count};
 ghost use Rattle.xg_jobs.specs.Groups.{greatest_of};
 ghost use Rattle.xg_jobs.specs.Rows.{AreNumbersOf, ArePlainSums, HaveSmallRows};
@@ -47,7 +48,14 @@ impl RowMaker for PlainRows {
         Ok(rows)
     }
 
-    fn small_rows(&self, input: &RowInput<'_>, jobs: &JobTable, rows: &mut SmallRows) -> bool
+    fn small_rows<Rt: Threads + Sync>(
+        &self,
+        _rt: &Rt,
+        input: &RowInput<'_>,
+        jobs: &JobTable,
+        rows: &mut SmallRows,
+    ) -> bool
+        requires sync { IsSync Rt.row }
         requires numbers { AreNumbersOf input.now.form.now input.now.one.now input.now.two.now }
         requires table { HasLeavesOf input.now.form.now jobs.now }
         requires rows_one { length rows.old.one ≡ sequence_count input.now.form.now.sets_one }

@@ -18,6 +18,10 @@ pub(crate) trait Row: Copy {
         requires product { unsigned_abs w * n < limit }
         requires room { unsigned_abs (amount self.now +ℤ (w *ℤ pos n)) < limit }
         ensures { amount result ≡ amount self.now +ℤ (w *ℤ pos n) };
+
+    fn plus_row(&self, other: &Self) -> Self
+        requires { unsigned_abs (amount self.now +ℤ amount other.now) < limit }
+        ensures { amount result ≡ amount self.now +ℤ amount other.now };
 }
 
 impl Row for i64 {
@@ -32,6 +36,10 @@ impl Row for i64 {
     fn plus_product(&self, w: i64, n: u64) -> i64 {
         plus(*self, times(w, n))
     }
+
+    fn plus_row(&self, other: &i64) -> i64 {
+        plus(*self, *other)
+    }
 }
 
 impl Row for i128 {
@@ -45,6 +53,10 @@ impl Row for i128 {
 
     fn plus_product(&self, w: i64, n: u64) -> i128 {
         plus_wide(*self, times_wide(w, n))
+    }
+
+    fn plus_row(&self, other: &i128) -> i128 {
+        plus_wide(*self, *other)
     }
 }
 
@@ -102,4 +114,17 @@ pub(crate) fn put<R: Row>(rows: &mut [R], row: usize, amount: R)
         → amount_of (map R.amount rows.new) b ≡ amount_of (map R.amount rows.old) b }
 {
     rows[row] = amount;
+}
+
+/// Adds an amount to a row.
+pub(crate) fn add_row<R: Row>(rows: &mut [R], row: usize, amount: R)
+    requires inside { row < length rows.old }
+    requires room { unsigned_abs (amount_of (map R.amount rows.old) row +ℤ R.amount amount) < R.limit }
+    ensures count { length rows.new ≡ length rows.old }
+    ensures here { amount_of (map R.amount rows.new) row
+        ≡ amount_of (map R.amount rows.old) row +ℤ R.amount amount }
+    ensures others { (b : ℕ) → (b ≡ row → ⊥)
+        → amount_of (map R.amount rows.new) b ≡ amount_of (map R.amount rows.old) b }
+{
+    rows[row] = rows[row].plus_row(&amount);
 }

@@ -1,5 +1,6 @@
 //! The table of a game's jobs.
 ghost use Rattle.std.specs.Prelude.{◌≡◌, ◌↔◌, ◌*◌, ◌-◌, ◌^◌, ◌<◌, ◌≤◌, All, length, max, IfOk, IsTrue, OnErr, OnOk, Some, map, slice_get, slice_index_or};
+ghost use Rattle.std.specs.Thread.{IsSync};
 ghost use Rattle.def_history.specs.Jobs.{most_jobs};
 ghost use Rattle.def_history.specs.Leaves.{amounts};
 ghost use Rattle.def_history.specs.Packets.{IsPacketOf};
@@ -19,10 +20,12 @@ use crate::cutting::ranges_of;
 use crate::groups::LeafGroups;
 use crate::input::RowInput;
 use crate::rows::{Rows, SmallRows};
+use crate::spare::SpareRows;
 use crate::touching::{most_rows, touched_of};
 use def_tree::Player;
 use std::alloc::{AllocError, Global};
-use std::marker::Model;
+use std::marker::{Model, Sync};
+use std::thread::Threads;
 use xg_rowcore::Packet;
 use xg_seq::SeqForm;
 use xg_touched::TouchedRows;
@@ -184,6 +187,28 @@ impl JobTable {
         ensures count_two { length rows.new.two ≡ length rows.old.two }
     {
         self.groups.write_small_to(input, rows)
+    }
+
+    /// The same by several threads where that pays.
+    pub(crate) fn write_small_by_threads<Rt: Threads + Sync>(
+        &self,
+        rt: &Rt,
+        input: &RowInput<'_>,
+        rows: &mut SmallRows,
+        spare: &mut SpareRows,
+    ) -> bool
+        requires sync { IsSync Rt.row }
+        requires numbers { AreNumbersOf input.now.form.now input.now.one.now input.now.two.now }
+        requires table { HasLeavesOf input.now.form.now self.now }
+        requires rows_one { length rows.old.one ≡ sequence_count input.now.form.now.sets_one }
+        requires rows_two { length rows.old.two ≡ sequence_count input.now.form.now.sets_two }
+        ensures fits { let most = max (greatest_of input.now.one.now) (greatest_of input.now.two.now) in
+            IsTrue result ↔ self.now.mass * most < 2 ^ 63 }
+        ensures sums { IsTrue result → ArePlainSums input.now.form.now input.now.one.now input.now.two.now rows.new }
+        ensures count_one { length rows.new.one ≡ length rows.old.one }
+        ensures count_two { length rows.new.two ≡ length rows.old.two }
+    {
+        self.groups.write_small_by_threads(rt, input, rows, spare)
     }
 
     /// Writes the leaf sum of each sequence of one player against the other player's numbers, in player one's payoff.

@@ -1,0 +1,34 @@
+//! Room for the rows of further threads.
+use crate::pace::Pace;
+use def_tree::Player;
+use std::alloc::{AllocError, Global};
+use xg_seq::SeqForm;
+
+/// Room for player two's rows in three further threads, with the pace at which they are started.
+#[derive(Drop)]
+pub(crate) struct SpareRows {
+    pub(crate) second: Vec<i64>,
+    pub(crate) third: Vec<i64>,
+    pub(crate) fourth: Vec<i64>,
+    pub(crate) pace: Pace,
+}
+
+impl SpareRows {
+    /// For a form with so many leaves that threads may pay, and else without room.
+    pub(crate) fn new(alloc: Global, form: &SeqForm) -> Result<SpareRows, AllocError> {
+        let rows = if (form.leaf_count() as usize) < PAYING_ENTRIES {
+            0
+        } else {
+            form.sequence_count(Player::Two) as usize
+        };
+        Ok(SpareRows {
+            second: vec![in alloc; 0; rows]?,
+            third: vec![in alloc; 0; rows]?,
+            fourth: vec![in alloc; 0; rows]?,
+            pace: Pace::new(),
+        })
+    }
+}
+
+/// How many entries pay for three threads' start in each round.
+pub(crate) const PAYING_ENTRIES: usize = 200_000;
