@@ -1,5 +1,6 @@
 -- What holds of the files of a batch. Each law is the contract of a function of this crate.
-use Rattle.std.specs.Prelude.{◌≡◌, ◌↔◌, ℕ, ◌+◌, ◌<◌, ◌≤◌, List, [], ◌∷◌, ◌++◌, length, map, take, drop, slice_get, Some, Ok, Err}
+use Rattle.std.specs.Prelude.{◌≡◌, ◌↔◌, ℕ, ◌+◌, ◌<◌, ◌≤◌, List, [], ◌∷◌, ◌++◌, length, map, take, drop, slice_get, Some}
+use Rattle.std.specs.Prelude.{Ok, Err}
 use Rattle.def_file.specs.declared.FileFault.{FileFault}
 use Rattle.def_file.specs.declared.FileFault.TheVariants.{TooLong}
 use Rattle.def_file.specs.Content.{GameFile}
@@ -44,7 +45,8 @@ all_bytes [] = 0
 all_bytes (file ∷ files) = length file + all_bytes files
 
 abbrev pub ShortFilesAreKept : Type 0
-ShortFilesAreKept = (room : ℕ) (files : List (List ℕ)) → all_bytes files ≤ room → batch_entries room files ≡ map Kept files
+ShortFilesAreKept = (room : ℕ) (files : List (List ℕ)) → all_bytes files ≤ room → batch_entries room files
+    ≡ map Kept files
 
 -- a file that is kept is accepted, or refused, as it is alone
 pub record IsJudgedAlone (bytes : List ℕ) : Type 0 where

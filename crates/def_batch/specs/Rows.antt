@@ -13,6 +13,7 @@ pub record RoomRows : Type 0 where
   pub three : batch_entries 3 files ≡ Kept (codes "ab") ∷ Long ∷ Kept [] ∷ Kept (codes "e") ∷ Long ∷ Kept [] ∷ []
   pub kept : kept_bytes (batch_entries 3 files) ≡ 3
   pub four : batch_entries 4 files ≡ Kept (codes "ab") ∷ Kept (codes "cd") ∷ Kept [] ∷ Long ∷ Long ∷ Kept [] ∷ []
-  pub all : batch_entries 6 files ≡ Kept (codes "ab") ∷ Kept (codes "cd") ∷ Kept [] ∷ Kept (codes "e") ∷ Kept (codes "f")
+  pub all : batch_entries 6 files ≡ Kept (codes "ab") ∷ Kept (codes "cd") ∷ Kept [] ∷ Kept (codes "e")
+      ∷ Kept (codes "f")
       ∷ Kept [] ∷ []
   pub long : item_of Long ≡ Err TooLong

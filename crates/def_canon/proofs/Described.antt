@@ -87,13 +87,15 @@ answer_describes : (n i : ℕ) → 1 ≤ i → Describes (set_with n) outcome_of
 unfolding answer
 answer_describes n i low =
     let back : n + i - n ≡ i = omega arith in
-    move_describes n 1 (answer n i) _ (inl refl) (ap (answer n) (sym back) ∙ ap (λ b. cond b (opening_set (n + i)) (answer n (n + i - n))) (sym (above n i low))) refl refl
+    move_describes n 1 (answer n i) _ (inl refl) (ap (answer n) (sym back)
+    ∙ ap (λ b. cond b (opening_set (n + i)) (answer n (n + i - n))) (sym (above n i low))) refl refl
 
 after_bet_describes : (n j : ℕ) → 1 ≤ j → Describes (set_with n) outcome_of_poker (player_record 2 (after_bet n j))
 unfolding after_bet
 after_bet_describes n j low =
     let back : n + j - n ≡ j = omega arith in
-    move_describes n 2 (after_bet n j) _ (inr refl) (ap (after_bet n) (sym back) ∙ ap (λ b. cond b (after_check (n + j)) (after_bet n (n + j - n))) (sym (above n j low))) refl refl
+    move_describes n 2 (after_bet n j) _ (inr refl) (ap (after_bet n) (sym back)
+    ∙ ap (λ b. cond b (after_check (n + j)) (after_bet n (n + j - n))) (sym (above n j low))) refl refl
 
 hand_describes : (n i j : ℕ) → 1 ≤ i → i ≤ n → 1 ≤ j → j ≤ n
     → Each (Describes (set_with n) outcome_of_poker) (hand n i j)

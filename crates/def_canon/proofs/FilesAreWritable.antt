@@ -10,7 +10,8 @@ use Rattle.def_file.specs.declared.EntryKind.TheVariants.{Chance, Personal, Leaf
 use Rattle.def_file.specs.Content.{Action, Prologue, SetMention, OutcomeMention, Record}
 use Rattle.def_file.specs.Faults.{has_set}
 use Rattle.def_file.specs.Game.{IsSmallFraction}
-use Rattle.def_file_form.specs.Form.{AreActionsUpTo, AreEntries, IsActionList, IsChance, IsEntryAs, IsName, IsOutcome, IsPayoffList, IsPrologue, IsSet, IsText, Spelled}
+use Rattle.def_file_form.specs.Form.{AreActionsUpTo, AreEntries, IsActionList, IsChance, IsEntryAs, IsName, IsOutcome, IsPayoffList, IsPrologue, IsSet, IsText}
+use Rattle.def_file_form.specs.Form.{Spelled}
 use Rattle.def_file_form.proofs.WholeGames.{fraction_small, payoffs_small}
 use Rattle.def_canon.specs.Described.{Each}
 use Rattle.def_canon.specs.Writable.{AreWritableActions, GivesWritable, GivesWritableOutcome, GivesWritableSet, IsChanceOf, IsPlainName, IsPlainPrologue}

@@ -12,7 +12,8 @@ use Rattle.def_file.specs.declared.EntryKind.TheVariants as kinds
 use Rattle.def_file.specs.Content.{SetMention, OutcomeMention, Record, SetEntry, no_set_mention, no_outcome_mention}
 use Rattle.def_file.specs.Faults.{has_set, mover, mover_as}
 use Rattle.def_file.specs.Adding.{nth_payoff}
-use Rattle.def_file.specs.Entries.{contents_of, first_given, firsts, given_first, mentions, node_of, number_in, of_kind, outcome_entry, outcome_mentions, outcome_numbers, outcome_table, set_entry, set_numbers, set_table, with_outcome}
+use Rattle.def_file.specs.Entries.{contents_of, first_given, firsts, given_first, mentions, node_of, number_in, of_kind, outcome_entry, outcome_mentions}
+use Rattle.def_file.specs.Entries.{outcome_numbers, outcome_table, set_entry, set_numbers, set_table, with_outcome}
 use Rattle.def_canon.specs.Described.{Each}
 use Rattle.def_canon.proofs.Lookups.{outcome_name_same, payoffs_same}
 use Rattle.def_canon.proofs.Sizes.{not_leaf}

@@ -1,5 +1,6 @@
 -- Entries with the whole description of their sets and their outcomes can be written, where what each one gives can be.
-use Rattle.std.proofs.Common.{◌≡◌, ℕ, ◌⊎◌, inl, inr, Bool, true, false, cond, List, [], ◌∷◌, ◌++◌, map, Option, Some, None, unwrap_or, refl, sym, ap, ◌∙◌, subst}
+use Rattle.std.proofs.Common.{◌≡◌, ℕ, ◌⊎◌, inl, inr, Bool, true, false, cond, List, [], ◌∷◌, ◌++◌, map, Option, Some, None, unwrap_or, refl, sym, ap, ◌∙◌}
+use Rattle.std.proofs.Common.{subst}
 use Rattle.std.specs.Prelude.{IfSome, nat_eq, not}
 use Rattle.std.specs.List.{All}
 use Rattle.std.proofs.lemmas.Bool.{eqb-false}
@@ -18,7 +19,8 @@ use Rattle.def_file.proofs.Fractions.{zero_small, nth_small}
 use Rattle.def_file.specs.Entries.{contents_of, first_given, given_first, mentions, of_kind, outcome_mentions, with_outcome}
 use Rattle.def_file.specs.EntryLaws.{HaveNoFault}
 use Rattle.def_canon.specs.Described.{Each}
-use Rattle.def_canon.specs.Writable.{AreWritableActions, GivesWritable, GivesWritableOutcome, GivesWritableSet, HasOwnMover, IsPlainName, IsWritable, IsWritableOutcome, IsWritableSet}
+use Rattle.def_canon.specs.Writable.{AreWritableActions, GivesWritable, GivesWritableOutcome, GivesWritableSet, HasOwnMover, IsPlainName, IsWritable}
+use Rattle.def_canon.specs.Writable.{IsWritableOutcome, IsWritableSet}
 use Rattle.def_canon.proofs.Filled.{each_mapped, filled, filled_set, own_player, paid_outcome, whole_set}
 use Rattle.def_canon.proofs.FilledRules.{each_placed, player_known}
 use Rattle.def_canon.proofs.FineLines.{kind_of, own_kind}

@@ -14,11 +14,13 @@ use Rattle.def_file.specs.Content.{Prologue, Action, SetMention, OutcomeMention,
 use Rattle.def_file.specs.Faults.{mover, mover_as}
 use Rattle.def_file.specs.Adding.{new_set, new_outcome}
 use Rattle.def_file.specs.Game.{IsSmallFraction}
-use Rattle.def_canon.specs.Canon.{on_new_line, open_piece, quoted, text_piece, marker_pieces, prologue_pieces, spaced, action_pieces, chance_pieces, close_piece, described_outcome, each, list_pieces, name_pieces, payoffs_pieces, player_pieces, set_pieces, whole_piece}
+use Rattle.def_canon.specs.Canon.{on_new_line, open_piece, quoted, text_piece, marker_pieces, prologue_pieces, spaced, action_pieces, chance_pieces}
+use Rattle.def_canon.specs.Canon.{close_piece, described_outcome, each, list_pieces, name_pieces, payoffs_pieces, player_pieces, set_pieces, whole_piece}
 use Rattle.def_canon.specs.Described.{Each}
 use Rattle.def_canon.specs.Writable.{IsPlainPrologue, AreWritableActions, IsChanceOf, IsPlainName, IsWritable, IsWritableOutcome, IsWritableSet}
 use Rattle.def_canon.proofs.OwnLines.{own_lines, own_outcome, own_pieces}
-use Rattle.def_canon.proofs.FineTokens.{IsFine, fine_digits, fine_line, fine_word, first_word, EachFine, fine_append, fine_close, fine_comma, fine_fraction, fine_letter, fine_open, fine_text, fine_whole}
+use Rattle.def_canon.proofs.FineTokens.{IsFine, fine_digits, fine_line, fine_word, first_word, EachFine, fine_append, fine_close, fine_comma, fine_fraction}
+use Rattle.def_canon.proofs.FineTokens.{fine_letter, fine_open, fine_text, fine_whole}
 use Rattle.def_canon.proofs.Tables.{mover_has_set}
 
 name_fine : (name : Option (List ℕ)) → IsPlainName name → EachFine (name_pieces name)
@@ -134,7 +136,8 @@ pub lines_fine : (rs : List Record) → Each IsWritable rs → EachFine (own_lin
 lines_fine [] w = tt
 lines_fine (r ∷ rs) w =
     fine_append (own_pieces (mover r) r) (own_lines rs)
-    (pieces_fine (mover r) r w.0 (λ some. subst (λ (k : EntryKind). IsWritableSet k r.set) (sym (own_kind r.kind r.player)) (w.0.set (mover_has_set r.kind r.player some))))
+    (pieces_fine (mover r) r w.0 (λ some. subst (λ (k : EntryKind). IsWritableSet k r.set) (sym (own_kind r.kind r.player))
+    (w.0.set (mover_has_set r.kind r.player some))))
     (lines_fine rs w.1)
 
 -- the first token has no white space before it
@@ -144,6 +147,16 @@ unfolding prologue_pieces marker_pieces
 prologue_fine p plain rest fine =
     let number : IsFine (spaced Number (codes "2")) = fine_digits (codes "2") refl refl in
     let word : IsFine (spaced Word (codes "R")) = fine_word 82 refl refl in
-    let tail : List Piece = spaced Number (codes "2") ∷ spaced Word (codes "R") ∷ text_piece p.title ∷ open_piece ∷ text_piece p.one ∷ text_piece p.two ∷ close_piece ∷ on_new_line Text (quoted p.comment) ∷ rest in
-    let behind : EachFine tail = (number, (word, (fine_text p.title plain.title, (fine_open, (fine_text p.one plain.one, (fine_text p.two plain.two, (fine_close, (fine_line p.comment plain.comment, fine)))))))) in
+    let tail : List Piece = spaced Number (codes "2") ∷ spaced Word (codes "R") ∷ text_piece p.title ∷ open_piece ∷ text_piece p.one ∷ text_piece p.two
+    ∷ close_piece ∷ on_new_line Text (quoted p.comment) ∷ rest in
+    let behind : EachFine tail = (
+      number,
+      (
+        word,
+        (
+          fine_text p.title plain.title,
+          (fine_open, (fine_text p.one plain.one, (fine_text p.two plain.two, (fine_close, (fine_line p.comment plain.comment, fine))))),
+        ),
+      ),
+    ) in
     first_word tail behind

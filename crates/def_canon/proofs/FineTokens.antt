@@ -83,7 +83,10 @@ fraction_is f num den = chosen (nat_eq f.den 1)
     chosen false =
         let above = int_is f.num num in
         let below = decimal_is f.den (omega arith) in
-        record { first = begin_more (signed_decimal f.num) (47 ∷ decimal f.den) above.first; runs = runs_append (signed_decimal f.num) (47 ∷ decimal f.den) above.runs (refl, below.runs) }
+        record {
+          first = begin_more (signed_decimal f.num) (47 ∷ decimal f.den) above.first;
+          runs = runs_append (signed_decimal f.num) (47 ∷ decimal f.den) above.runs (refl, below.runs);
+        }
 
 -- a token that may stand behind any other
 pub record IsFine (p : Piece) : Type 0 where

@@ -1,5 +1,6 @@
 -- What the tables of described entries have of an entry's set and outcome.
-use Rattle.std.proofs.Common.{◌≡◌, ◌≢◌, ℕ, suc, ◌+◌, ◌-◌, ◌≤◌, Bool, true, false, cond, List, [], ◌∷◌, ◌++◌, length, get_or, map, refl, sym, ap, ◌∙◌, subst, arith, eq-eqb}
+use Rattle.std.proofs.Common.{◌≡◌, ◌≢◌, ℕ, suc, ◌+◌, ◌-◌, ◌≤◌, Bool, true, false, cond, List, [], ◌∷◌, ◌++◌, length, get_or, map, refl, sym, ap, ◌∙◌, subst}
+use Rattle.std.proofs.Common.{arith, eq-eqb}
 use Rattle.std.specs.Prelude.{◌||◌, filter, nat_eq, not, unwrap_or}
 use Rattle.std.proofs.lemmas.Bool.{eqb-true}
 use Rattle.std.proofs.Math.Bool.{or-true}
@@ -10,7 +11,8 @@ use Rattle.def_tree.proofs.Sets.{is_same_kind_refl}
 use Rattle.def_file.specs.Content.{SetMention, OutcomeMention, Record}
 use Rattle.def_file.specs.Faults.{mover, no_set, null_outcome}
 use Rattle.def_file.specs.Adding.{new_set, new_outcome, nth_payoff}
-use Rattle.def_file.specs.Entries.{first_given, firsts, given_first, mentions, number_in, of_kind, outcome_entry, outcome_mentions, outcome_numbers, outcome_table, with_outcome, set_entry, set_numbers, set_table}
+use Rattle.def_file.specs.Entries.{first_given, firsts, given_first, mentions, number_in, of_kind, outcome_entry, outcome_mentions, outcome_numbers}
+use Rattle.def_file.specs.Entries.{outcome_table, with_outcome, set_entry, set_numbers, set_table}
 use Rattle.def_file.proofs.Firsts.{among, among-firsts, place}
 use Rattle.def_canon.specs.Described.{Describes, Each}
 use Rattle.def_canon.proofs.Tables.{AreAllNamed, filter_each, filter_some, first_name, first_same, front_some, given_same, mention_some, mentions_same}
@@ -65,7 +67,8 @@ module _ (sets : Kind → ℕ → SetMention) (outcomes : ℕ → OutcomeMention
   set_found rs before r behind split each some same =
       let kept = filter_some (λ x. is_same_kind (mover r) (mover x)) before r behind (is_same_kind_refl (mover r)) in
       let mine : of_kind (mover r) rs ≡ kept.0 ++ r ∷ of_kind (mover r) behind = ap (of_kind (mover r)) split ∙ kept.1 in
-      subst (λ (xs : List Record). get_or (map (set_entry (mover r) rs) (firsts (map (λ x. x.set.number) xs))) (number_in r.set.number (firsts (map (λ x. x.set.number) xs)) - 1) no_set ≡ set_entry (mover r) rs r.set.number)
+      subst (λ (xs : List Record). get_or (map (set_entry (mover r) rs) (firsts (map (λ x. x.set.number) xs)))
+      (number_in r.set.number (firsts (map (λ x. x.set.number) xs)) - 1) no_set ≡ set_entry (mover r) rs r.set.number)
       (sym mine) (found (set_entry (mover r) rs) no_set (λ x. x.set.number) kept.0 r (of_kind (mover r) behind))
       ∙ own_entry rs before r behind split each some same
 
@@ -98,12 +101,14 @@ module _ (sets : Kind → ℕ → SetMention) (outcomes : ℕ → OutcomeMention
       let mine : with_outcome rs ≡ kept.0 ++ r ∷ with_outcome behind = ap with_outcome split ∙ kept.1 in
       let second = filter_some (λ x. nat_eq n x.outcome.number) kept.0 r (with_outcome behind) (eq-eqb n n refl) in
       let hits : outcome_mentions n rs ≡ second.0 ++ r ∷ outcome_mentions n behind = ap (filter (λ x. nat_eq n x.outcome.number)) mine ∙ second.1 in
-      let many : 1 ≤ length (outcome_mentions n rs) = subst (λ (xs : List Record). 1 ≤ length xs) (sym hits) (front_some second.0 r (outcome_mentions n behind)) in
+      let many : 1 ≤ length (outcome_mentions n rs) = subst (λ (xs : List Record). 1 ≤ length xs) (sym hits)
+      (front_some second.0 r (outcome_mentions n behind)) in
       let alike : Each (λ x. x.outcome ≡ outcomes n) (outcome_mentions n rs) =
       filter_each _ (Describes sets outcomes) _ (λ x known is. known.outcome.same ∙ ap outcomes (sym (eqb-true n x.outcome.number is))) (with_outcome rs)
       (filter_each _ (Describes sets outcomes) _ (λ x known is. known) rs each) in
       let named = outcome_name_same (outcomes n) (outcome_mentions n rs) many alike ∙ ap (λ (m : OutcomeMention). m.name) (sym same) in
       let listed = payoffs_same (outcomes n) (outcome_mentions n rs) many alike ∙ ap (λ (m : OutcomeMention). unwrap_or m.payoffs []) (sym same) in
-      subst (λ (xs : List Record). get_or (map (outcome_entry rs) (firsts (map (λ x. x.outcome.number) xs))) (number_in n (firsts (map (λ x. x.outcome.number) xs)) - 1) null_outcome ≡ outcome_entry rs n)
+      subst (λ (xs : List Record). get_or (map (outcome_entry rs) (firsts (map (λ x. x.outcome.number) xs)))
+      (number_in n (firsts (map (λ x. x.outcome.number) xs)) - 1) null_outcome ≡ outcome_entry rs n)
       (sym mine) (found (outcome_entry rs) null_outcome (λ x. x.outcome.number) kept.0 r (with_outcome behind))
       ∙ (λ i. record { number = n; name = named i; one = nth_payoff (listed i) 0; two = nth_payoff (listed i) 1 })

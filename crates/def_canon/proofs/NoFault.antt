@@ -8,7 +8,8 @@ use Rattle.def_tree.specs.declared.Kind.TheVariants as movers
 use Rattle.def_tree.specs.Rules.{most_nodes}
 use Rattle.def_file.specs.declared.EntryKind.TheVariants.{Personal}
 use Rattle.def_file.specs.declared.FileFault.{FileFault}
-use Rattle.def_file.specs.declared.FileFault.TheVariants.{PlayerNumber, SetUndefined, SetMismatch, OutcomeUndefined, OutcomeMismatch, PayoffCount, TooManyNodes, ActionCount}
+use Rattle.def_file.specs.declared.FileFault.TheVariants.{PlayerNumber, SetUndefined, SetMismatch, OutcomeUndefined, OutcomeMismatch, PayoffCount, TooManyNodes}
+use Rattle.def_file.specs.declared.FileFault.TheVariants.{ActionCount}
 use Rattle.def_file.specs.Content.{Action, SetMention, OutcomeMention, Record}
 use Rattle.def_file.specs.Faults.{mover, mover_as, has_set}
 use Rattle.def_file.specs.EntryRules.{Moves, MentionOneSet, MentionOneOutcome, IsFirstWith, AreSameNumbers, AreSameActions, HasOtherName, HasOtherList, Breaks}
@@ -88,7 +89,8 @@ module _ (sets : Kind → ℕ → SetMention) (outcomes : ℕ → OutcomeMention
   refute rs r each d few (SetMismatch node) b =
       ⊎_elim
       (no_other_name (MentionOneSet r) (λ e. e.set.name) rs r (λ e de one. ap (λ (m : SetMention). m.name) (same_set r e d de one)) each)
-      (no_other_list (MentionOneSet r) (λ e. e.set.actions) (AreSameActions r.kind) rs r (λ e de one. ap (λ (m : SetMention). m.actions) (same_set r e d de one)) (same_actions r.kind) each)
+      (no_other_list (MentionOneSet r) (λ e. e.set.actions) (AreSameActions r.kind) rs r
+      (λ e de one. ap (λ (m : SetMention). m.actions) (same_set r e d de one)) (same_actions r.kind) each)
       b.1
   refute rs r each d few (OutcomeUndefined node) b =
       let two = d.outcome.two b.1.not_null in
@@ -98,7 +100,8 @@ module _ (sets : Kind → ℕ → SetMention) (outcomes : ℕ → OutcomeMention
       ⊎_elim
       (no_other_name (MentionOneOutcome r) (λ e. e.outcome.name) rs r (λ e de one. ap (λ (m : OutcomeMention). m.name) (same_outcome r e d de one)) each)
       (⊎_elim
-      (no_other_list (MentionOneOutcome r) (λ e. e.outcome.payoffs) AreSameNumbers rs r (λ e de one. ap (λ (m : OutcomeMention). m.payoffs) (same_outcome r e d de one)) same_numbers each)
+      (no_other_list (MentionOneOutcome r) (λ e. e.outcome.payoffs) AreSameNumbers rs r
+      (λ e de one. ap (λ (m : OutcomeMention). m.payoffs) (same_outcome r e d de one)) same_numbers each)
       (λ zeros. let clash : Some zeros.given ≡ None = sym zeros.gives ∙ d.outcome.null zeros.null in cc))
       b.1
   refute rs r each d few (PayoffCount node) b =

@@ -113,6 +113,7 @@ pub entries_are : (rs : List Record) → Each IsWritable rs → AreEntries rs (s
 entries_are [] w = refl
 entries_are (r ∷ rs) w = (
   spell (own_lines rs) [],
-  subst (λ (tokens : List Spelled). IsEntry r tokens (spell (own_lines rs) [])) (sym (spell_append (own_pieces (mover r) r) (own_lines rs) [])) (entry_is r (spell (own_lines rs) []) w.0),
+  subst (λ (tokens : List Spelled). IsEntry r tokens (spell (own_lines rs) [])) (sym (spell_append (own_pieces (mover r) r) (own_lines rs) []))
+      (entry_is r (spell (own_lines rs) []) w.0),
   entries_are rs w.1,
 )

@@ -17,13 +17,15 @@ use Rattle.def_tree.specs.declared.Player.TheVariants.{One, Two}
 use Rattle.def_file.specs.Adding.{new_set}
 use Rattle.def_file.specs.Content.{Action, Record, chance_record, player_record, leaf_record}
 use Rattle.def_file.specs.Faults.{mover}
-use Rattle.def_canon.specs.Canon.{action_pieces, chance_pieces, described_outcome, each, list_pieces, marker_pieces, name_pieces, payoffs_pieces, player_pieces, prologue_pieces, quoted, set_pieces, canon}
+use Rattle.def_canon.specs.Canon.{action_pieces, chance_pieces, described_outcome, each, list_pieces, marker_pieces, name_pieces, payoffs_pieces, player_pieces}
+use Rattle.def_canon.specs.Canon.{prologue_pieces, quoted, set_pieces, canon}
 use Rattle.def_canon.specs.Canon as canonical
 use Rattle.def_canon.specs.Described.{Each}
 use Rattle.def_canon.proofs.NoFault.{each_append}
 use Rattle.def_canon.proofs.OwnLines.{own_lines, own_pieces}
 use Rattle.def_canon.specs.PokerLaws.{PokerIsShort}
-use Rattle.def_canon.specs.Poker.{after_bet, after_check, answer, cards, deal_one, deal_two, dealt_card, described_set, entries, facing_bet, hand, hands, higher, opening_set, others, poker, prologue, rounds_with_cards, wins_one, wins_two}
+use Rattle.def_canon.specs.Poker.{after_bet, after_check, answer, cards, deal_one, deal_two, dealt_card, described_set, entries, facing_bet, hand, hands}
+use Rattle.def_canon.specs.Poker.{higher, opening_set, others, poker, prologue, rounds_with_cards, wins_one, wins_two}
 use Rattle.def_canon.proofs.Cards.{AreCards, cards_are, others_are, others_count}
 use Rattle.def_canon.proofs.PokerSizes.{entries_count}
 use Rattle.def_canon.proofs.Written.{lines_are}

@@ -6,7 +6,8 @@ use Rattle.def_tree.specs.Rules.{most_nodes}
 use Rattle.def_file.specs.Content.{Record, chance_record}
 use Rattle.def_canon.proofs.NoFault.{described_have_no_fault}
 use Rattle.def_canon.proofs.Sizes.{wanted_behind, wanted_behind-append, EntriesBegin, begin-append, wanted_described, begins_described}
-use Rattle.def_canon.specs.Poker.{after_bet, after_check, answer, cards, deal_one, deal_two, dealt_card, entries, facing_bet, hand, hands, opening_set, others, rounds_with_cards}
+use Rattle.def_canon.specs.Poker.{after_bet, after_check, answer, cards, deal_one, deal_two, dealt_card, entries, facing_bet, hand, hands, opening_set, others}
+use Rattle.def_canon.specs.Poker.{rounds_with_cards}
 use Rattle.def_canon.specs.PokerLaws.{PokerIsGame}
 use Rattle.def_canon.proofs.Cards.{AreCards, cards_are, others_count}
 use Rattle.def_canon.proofs.Described.{entries_describe, set_with, outcome_of_poker}

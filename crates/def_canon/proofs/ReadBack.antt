@@ -19,7 +19,8 @@ use Rattle.def_file.specs.Entries.{contents_of, game_of_entries, node_of, number
 use Rattle.def_file_form.specs.Form.{IsPrologue, Spelled}
 use Rattle.def_file_form.specs.Laws.{StandsFor}
 use Rattle.def_file_form.proofs.FileReadingIsExact.{game_taken}
-use Rattle.def_canon.specs.Canon.{canon, described_outcome, each, game_pieces, lines_pieces, node_pieces, outcome_pieces, place_pieces, player_pieces, prologue_pieces, set_pieces, text_piece, letter, whole_piece}
+use Rattle.def_canon.specs.Canon.{canon, described_outcome, each, game_pieces, lines_pieces, node_pieces, outcome_pieces, place_pieces, player_pieces}
+use Rattle.def_canon.specs.Canon.{prologue_pieces, set_pieces, text_piece, letter, whole_piece}
 use Rattle.def_canon.specs.Described.{Describes, Each}
 use Rattle.def_canon.specs.Laws.{CanonIsReadBack, CanonStandsForGame, IsOfEntries}
 use Rattle.def_canon.specs.Writable.{IsPlainPrologue, IsWritable}
@@ -107,7 +108,8 @@ module _ (sets : Kind → ℕ → SetMention) (outcomes : ℕ → OutcomeMention
   lines_own before (r ∷ rest) split =
       let place = place_own before r rest split in
       let outcome = outcome_own before r rest split in
-      (λ i. (letter (mover r) ∷ text_piece r.name ∷ (player_pieces (mover r) ++ (place i ++ outcome i))) ++ lines_own (before ++ r ∷ []) rest (split ∙ sym (append_assoc before (r ∷ []) rest)) i)
+      (λ i. (letter (mover r) ∷ text_piece r.name ∷ (player_pieces (mover r) ++ (place i ++ outcome i)))
+      ++ lines_own (before ++ r ∷ []) rest (split ∙ sym (append_assoc before (r ∷ []) rest)) i)
 
 game_lines : (p : Prologue) (rs : List Record)
     → lines_pieces (contents_of rs).sets (outcome_table rs) (zip (contents_of rs).nodes (contents_of rs).names)
@@ -115,7 +117,8 @@ game_lines : (p : Prologue) (rs : List Record)
     → game_pieces (game_of_entries p rs) ≡ prologue_pieces p ++ own_lines rs
 unfolding game_pieces
 game_lines p rs own =
-    ap (λ (ns : List Node). prologue_pieces p ++ lines_pieces (contents_of rs).sets (outcome_table rs) (zip ns (contents_of rs).names)) (prefix-forest_of (contents_of rs).nodes)
+    ap (λ (ns : List Node). prologue_pieces p ++ lines_pieces (contents_of rs).sets (outcome_table rs) (zip ns (contents_of rs).names))
+    (prefix-forest_of (contents_of rs).nodes)
     ∙ ap (λ l. prologue_pieces p ++ l) own
 
 stands : (p : Prologue) (rs : List Record) (sets : Kind → ℕ → SetMention) (outcomes : ℕ → OutcomeMention)

@@ -17,8 +17,10 @@ use Rattle.def_file.specs.declared.EntryKind.TheVariants.{Chance, Personal}
 use Rattle.def_file.specs.Content.{Action, Prologue, SetMention, OutcomeMention}
 use Rattle.def_file.specs.Adding.{new_set, new_outcome}
 use Rattle.def_file.specs.Game.{IsSmallFraction}
-use Rattle.def_file_form.specs.Form.{Spelled, spelled, IsText, IsName, IsWholeNumber, IsFraction, IsChance, AreActionsUpTo, IsActionList, IsPayoffList, IsSet, IsOutcome, IsPrologue}
-use Rattle.def_canon.specs.Canon.{action_pieces, behind, chance_pieces, close_piece, described_outcome, each, fraction, list_pieces, marker_pieces, name_pieces, payoffs_pieces, prologue_pieces, quoted, set_pieces, text_piece, whole_piece}
+use Rattle.def_file_form.specs.Form.{Spelled, spelled, IsText, IsName, IsWholeNumber, IsFraction, IsChance, AreActionsUpTo, IsActionList, IsPayoffList, IsSet}
+use Rattle.def_file_form.specs.Form.{IsOutcome, IsPrologue}
+use Rattle.def_canon.specs.Canon.{action_pieces, behind, chance_pieces, close_piece, described_outcome, each, fraction, list_pieces, marker_pieces, name_pieces}
+use Rattle.def_canon.specs.Canon.{payoffs_pieces, prologue_pieces, quoted, set_pieces, text_piece, whole_piece}
 use Rattle.def_canon.specs.Writable.{AreWritableActions, IsChanceOf, IsPlainName, IsPlainPrologue, IsWritableOutcome, IsWritableSet}
 
 -- the tokens of pieces, and then the rest
@@ -129,7 +131,8 @@ set_is who kind moves m rest w =
       named = listed;
       number = whole_is m.number _ w.limit;
       from_one = w.from_one;
-      name = subst (λ (tokens : List Spelled). IsName m.name tokens listed) (sym (spell_append (name_pieces m.name) (list_pieces who actions) rest)) (name_is m.name listed w.name);
+      name = subst (λ (tokens : List Spelled). IsName m.name tokens listed) (sym (spell_append (name_pieces m.name) (list_pieces who actions) rest))
+          (name_is m.name listed w.name);
       actions = subst (λ (o : Option (List Action)). IsActionList kind o listed rest) (sym given)
           (list_is who kind moves actions rest (subst (AreWritableActions kind) own w.writable));
     }
@@ -157,7 +160,8 @@ outcome_is m rest w =
       numbered = spell (name_pieces m.name ++ payoffs_pieces one two) rest;
       named = listed;
       number = whole_is m.number _ w.limit;
-      name = subst (λ (tokens : List Spelled). IsName m.name tokens listed) (sym (spell_append (name_pieces m.name) (payoffs_pieces one two) rest)) (name_is m.name listed w.name);
+      name = subst (λ (tokens : List Spelled). IsName m.name tokens listed) (sym (spell_append (name_pieces m.name) (payoffs_pieces one two) rest))
+          (name_is m.name listed w.name);
       payoffs = subst (λ (o : Option (List Fraction)). IsPayoffList o listed rest) (sym given)
           (payoffs_are one two rest (subst IsSmallFraction same_one w.one_small) (subst IsSmallFraction same_two w.two_small));
     }

@@ -24,7 +24,8 @@ use Rattle.def_canon.proofs.NoFault.{each_append}
 use Rattle.def_canon.proofs.OwnLines.{own_lines}
 use Rattle.def_canon.proofs.ReadBack.{canon_is_read_back, canon_of_lines, canon_stands_for_game}
 use Rattle.def_canon.specs.PokerLaws.{PokerIsReadBack}
-use Rattle.def_canon.specs.Poker.{after_bet, after_check, answer, cards, deal_one, deal_two, dealt_card, described_set, entries, facing_bet, hand, hands, higher, opening_set, others, poker, prologue, rounds_with_cards, wins_one, wins_two}
+use Rattle.def_canon.specs.Poker.{after_bet, after_check, answer, cards, deal_one, deal_two, dealt_card, described_set, entries, facing_bet, hand, hands}
+use Rattle.def_canon.specs.Poker.{higher, opening_set, others, poker, prologue, rounds_with_cards, wins_one, wins_two}
 use Rattle.def_canon.proofs.Cards.{AreCards, cards_are, others_are}
 use Rattle.def_canon.proofs.Described.{entries_describe, outcome_of_poker, set_with}
 use Rattle.def_canon.proofs.PokerSizes.{entries_few, poker_is_game}
@@ -100,13 +101,49 @@ end_written o w = record { name = ends_plainly [] refl; mover = (refl, refl); se
 
 win_one : (p : Player) → IsWritable (leaf_record (wins_one p))
 unfolding wins_one gcd
-win_one One = end_written (wins_one One) (record { not_null = λ e. absurd (omega arith); limit = omega arith; name = ends_plainly (codes "One wins 1") refl; one = _; two = _; gives = refl; one_small = (record { positive = omega arith; coprime = refl }, refl); two_small = (record { positive = omega arith; coprime = refl }, refl) })
-win_one Two = end_written (wins_one Two) (record { not_null = λ e. absurd (omega arith); limit = omega arith; name = ends_plainly (codes "Two wins 1") refl; one = _; two = _; gives = refl; one_small = (record { positive = omega arith; coprime = refl }, refl); two_small = (record { positive = omega arith; coprime = refl }, refl) })
+win_one One = end_written (wins_one One) (record {
+  not_null = λ e. absurd (omega arith);
+  limit = omega arith;
+  name = ends_plainly (codes "One wins 1") refl;
+  one = _;
+  two = _;
+  gives = refl;
+  one_small = (record { positive = omega arith; coprime = refl }, refl);
+  two_small = (record { positive = omega arith; coprime = refl }, refl);
+})
+win_one Two = end_written (wins_one Two) (record {
+  not_null = λ e. absurd (omega arith);
+  limit = omega arith;
+  name = ends_plainly (codes "Two wins 1") refl;
+  one = _;
+  two = _;
+  gives = refl;
+  one_small = (record { positive = omega arith; coprime = refl }, refl);
+  two_small = (record { positive = omega arith; coprime = refl }, refl);
+})
 
 win_two : (p : Player) → IsWritable (leaf_record (wins_two p))
 unfolding wins_two gcd
-win_two One = end_written (wins_two One) (record { not_null = λ e. absurd (omega arith); limit = omega arith; name = ends_plainly (codes "One wins 2") refl; one = _; two = _; gives = refl; one_small = (record { positive = omega arith; coprime = refl }, refl); two_small = (record { positive = omega arith; coprime = refl }, refl) })
-win_two Two = end_written (wins_two Two) (record { not_null = λ e. absurd (omega arith); limit = omega arith; name = ends_plainly (codes "Two wins 2") refl; one = _; two = _; gives = refl; one_small = (record { positive = omega arith; coprime = refl }, refl); two_small = (record { positive = omega arith; coprime = refl }, refl) })
+win_two One = end_written (wins_two One) (record {
+  not_null = λ e. absurd (omega arith);
+  limit = omega arith;
+  name = ends_plainly (codes "One wins 2") refl;
+  one = _;
+  two = _;
+  gives = refl;
+  one_small = (record { positive = omega arith; coprime = refl }, refl);
+  two_small = (record { positive = omega arith; coprime = refl }, refl);
+})
+win_two Two = end_written (wins_two Two) (record {
+  not_null = λ e. absurd (omega arith);
+  limit = omega arith;
+  name = ends_plainly (codes "Two wins 2") refl;
+  one = _;
+  two = _;
+  gives = refl;
+  one_small = (record { positive = omega arith; coprime = refl }, refl);
+  two_small = (record { positive = omega arith; coprime = refl }, refl);
+})
 
 moves_written : (number : ℕ) (name first second : List ℕ) → 1 ≤ number → number ≤ 128 → EndsPlainly name
     → plain first ≡ true → plain second ≡ true
@@ -124,19 +161,23 @@ module _ (n : ℕ) (two : 2 ≤ n) (limit : n ≤ 64) where
   hand_written : (i j : ℕ) → 1 ≤ i → i ≤ n → 1 ≤ j → j ≤ n → Each IsWritable (hand n i j)
   unfolding hand facing_bet opening_set after_check answer after_bet
   hand_written i j i_low i_high j_low j_high = (
-    move_one_written (opening_set i) (moves_written i (decimal i) (codes "check") (codes "bet") i_low (omega arith) (ends_plainly (decimal i) (decimal_plain i (omega arith))) refl refl),
+    move_one_written (opening_set i) (moves_written i (decimal i) (codes "check") (codes "bet") i_low (omega arith)
+        (ends_plainly (decimal i) (decimal_plain i (omega arith))) refl refl),
     (
-      move_two_written (after_check j) (moves_written j (decimal j ++ codes " c") (codes "check") (codes "bet") j_low (omega arith) (behind_number (codes " c") j (omega arith) refl) refl refl),
+      move_two_written (after_check j) (moves_written j (decimal j ++ codes " c") (codes "check") (codes "bet") j_low (omega arith)
+          (behind_number (codes " c") j (omega arith) refl) refl refl),
       (
         win_one (higher i j),
         (
-          move_one_written (answer n i) (moves_written (n + i) (decimal i ++ codes " cb") (codes "fold") (codes "call") (omega arith) (omega arith) (behind_number (codes " cb") i (omega arith) refl) refl refl),
+          move_one_written (answer n i) (moves_written (n + i) (decimal i ++ codes " cb") (codes "fold") (codes "call") (omega arith) (omega arith)
+              (behind_number (codes " cb") i (omega arith) refl) refl refl),
           (
             win_one Two,
             (
               win_two (higher i j),
               (
-                move_two_written (after_bet n j) (moves_written (n + j) (decimal j ++ codes " b") (codes "fold") (codes "call") (omega arith) (omega arith) (behind_number (codes " b") j (omega arith) refl) refl refl),
+                move_two_written (after_bet n j) (moves_written (n + j) (decimal j ++ codes " b") (codes "fold") (codes "call") (omega arith) (omega arith)
+                    (behind_number (codes " b") j (omega arith) refl) refl refl),
                 (win_one One, (win_two (higher i j), tt)),
               ),
             ),

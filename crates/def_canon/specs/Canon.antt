@@ -131,19 +131,22 @@ node_pieces sets outcomes node name =
 
 -- `EFG 2 R`
 unfoldable pub marker_pieces : List Piece
-marker_pieces = behind [] kinds.Word (codes "EFG") ∷ spaced kinds.Number (codes "2") ∷ spaced kinds.Word (codes "R") ∷ []
+marker_pieces = behind [] kinds.Word (codes "EFG") ∷ spaced kinds.Number (codes "2") ∷ spaced kinds.Word (codes "R")
+    ∷ []
 
 -- the title and the players' names, and the comment on a line of its own
 unfoldable pub prologue_pieces : Prologue → List Piece
 prologue_pieces p =
-    marker_pieces ++ (text_piece p.title ∷ open_piece ∷ text_piece p.one ∷ text_piece p.two ∷ close_piece ∷ on_new_line kinds.Text (quoted p.comment) ∷ [])
+    marker_pieces ++ (text_piece p.title ∷ open_piece ∷ text_piece p.one ∷ text_piece p.two ∷ close_piece
+    ∷ on_new_line kinds.Text (quoted p.comment) ∷ [])
 
 -- nodes with their names
 abbrev pub lines_pieces : SetTables → List OutcomeEntry → List (Node × List ℕ) → List Piece
 lines_pieces sets outcomes lines = each (λ line. node_pieces sets outcomes line.0 line.1) lines
 
 unfoldable pub game_pieces : GameFile → List Piece
-game_pieces game = prologue_pieces game.prologue ++ lines_pieces game.sets game.outcomes (zip (prefix game.tree) game.names)
+game_pieces game = prologue_pieces game.prologue ++ lines_pieces game.sets game.outcomes
+    (zip (prefix game.tree) game.names)
 
 -- the whole file, with a line feed at its end
 unfoldable pub canon : GameFile → List ℕ

@@ -3,7 +3,8 @@ use Rattle.std.specs.Prelude.{◌≡◌, ℕ, ◌≤◌, List, [], ◌∷◌, le
 use Rattle.def_tree.specs.declared.Kind.{Kind}
 use Rattle.def_tree.specs.Rules.{most_nodes}
 use Rattle.def_tree.specs.Tree.{IsWhole}
-use Rattle.def_file.specs.Content.{SetMention, OutcomeMention, Prologue, Record, Contents, GameFile, game_with, no_contents}
+use Rattle.def_file.specs.Content.{SetMention, OutcomeMention, Prologue, Record, Contents, GameFile, game_with}
+use Rattle.def_file.specs.Content.{no_contents}
 use Rattle.def_file.specs.Faults.{record_fault}
 use Rattle.def_file.specs.Adding.{with_record}
 use Rattle.def_file.specs.Reading.{game_at}
@@ -63,7 +64,8 @@ AreTakenInTurn before (r ∷ rs) now = (record_fault before r ≡ None) × AreTa
 
 -- a game that was made entry by entry is read back, too
 abbrev pub CanonOfMade : Type 0
-CanonOfMade = (prologue : Prologue) (rs : List Record) (made : Contents) → IsPlainPrologue prologue → Each GivesWritable rs
+CanonOfMade = (prologue : Prologue) (rs : List Record) (made : Contents) → IsPlainPrologue prologue
+    → Each GivesWritable rs
     → AreTakenInTurn no_contents rs made → IsWhole made.nodes
     → StandsFor (canon (game_with prologue made)) (game_with prologue made)
     × (game_at (canon (game_with prologue made)) ≡ Ok (game_with prologue made))

@@ -7,13 +7,15 @@
 --     hand n i j                                      the play where player one has card i and player two has card j
 --     entries n                                       all entries, in prefix order
 --     poker n                                         the game
-use Rattle.std.specs.Prelude.{ℕ, ℤ, pos, neg_ℤ, ◌+◌, ◌-◌, nat_eq, nat_lt, not, if◌then◌else◌, List, [], ◌∷◌, ◌++◌, map, filter, codes, Some}
+use Rattle.std.specs.Prelude.{ℕ, ℤ, pos, neg_ℤ, ◌+◌, ◌-◌, nat_eq, nat_lt, not, if◌then◌else◌, List, [], ◌∷◌, ◌++◌, map}
+use Rattle.std.specs.Prelude.{filter, codes, Some}
 use Rattle.std.specs.List.{range_with_len}
 use Rattle.std.specs.Fmt.{decimal}
 use Rattle.def_fraction.specs.Fraction.{whole_number, one_over}
 use Rattle.def_tree.specs.declared.Player.{Player}
 use Rattle.def_tree.specs.declared.Player.TheVariants.{One, Two}
-use Rattle.def_file.specs.Content.{Prologue, Action, SetMention, OutcomeMention, Record, GameFile, named_action, chance_record, player_record, leaf_record}
+use Rattle.def_file.specs.Content.{Prologue, Action, SetMention, OutcomeMention, Record, GameFile, named_action}
+use Rattle.def_file.specs.Content.{chance_record, player_record, leaf_record}
 use Rattle.def_file.specs.Entries.{game_of_entries}
 
 -- Cards, which count from 1.

@@ -14,7 +14,8 @@ PokerIsGame = (n : ℕ) → 2 ≤ n → n ≤ 64 → HaveNoFault (entries n) × 
 
 -- with 2 to 64 cards the canonical form of poker stands for poker and is read as it
 abbrev pub PokerIsReadBack : Type 0
-PokerIsReadBack = (n : ℕ) → 2 ≤ n → n ≤ 64 → StandsFor (canon (poker n)) (poker n) × (game_at (canon (poker n)) ≡ Ok (poker n))
+PokerIsReadBack = (n : ℕ) → 2 ≤ n → n ≤ 64 → StandsFor (canon (poker n)) (poker n)
+    × (game_at (canon (poker n)) ≡ Ok (poker n))
 
 -- with 2 to 64 cards the canonical form of poker isn't too long to be read
 abbrev pub PokerIsShort : Type 0

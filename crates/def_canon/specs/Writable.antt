@@ -6,7 +6,8 @@ use Rattle.def_fraction.specs.Fraction.{Fraction, most, zero_fraction}
 use Rattle.def_file_tokens.specs.Texts.{EndsPlainly}
 use Rattle.def_file.specs.declared.EntryKind.{EntryKind}
 use Rattle.def_file.specs.declared.EntryKind.TheVariants.{Chance, Personal, Leaf}
-use Rattle.def_file.specs.Content.{Action, Prologue, SetMention, OutcomeMention, Record, no_set_mention, no_outcome_mention}
+use Rattle.def_file.specs.Content.{Action, Prologue, SetMention, OutcomeMention, Record, no_set_mention}
+use Rattle.def_file.specs.Content.{no_outcome_mention}
 use Rattle.def_file.specs.Faults.{has_set}
 use Rattle.def_file.specs.Game.{IsSmallFraction}
 

@@ -39,7 +39,8 @@ joined_by_sets : (hs : List InformationSet) (xs : List ℕ) → length xs ≡ to
 joined_by_sets [] [] e = refl
 joined_by_sets [] (x ∷ xs) e = absurd (omega arith)
 joined_by_sets (h ∷ hs) xs e =
-    ap (λ (ys : List ℕ). take h.actions xs ++ ys) (joined_by_sets hs (drop h.actions xs) (omega (arith, length-drop h.actions xs))) ∙ take-append-drop h.actions xs
+    ap (λ (ys : List ℕ). take h.actions xs ++ ys) (joined_by_sets hs (drop h.actions xs) (omega (arith, length-drop h.actions xs)))
+    ∙ take-append-drop h.actions xs
 
 -- what is printed of a plan has its numbers
 pub numbers_back : (sets : List InformationSet) (plan : List ℕ) → length plan ≡ 1 + total_actions sets
@@ -63,10 +64,12 @@ plan_holds sets root plan h =
 pub reply_holds : (game : WeighedGame) (player : Player) (plan : List ℕ) (printed : PrintedPlan) (traced : ℤ)
     → AreInOrder (player_sets game.form player) → printed_numbers printed ≡ plan
     → printed.root ≡ slice_index plan 0 → total_against game.form player plan ≡ traced
-    → HoldsAsReply player (leaf_sum player game.form.leaves (printed_numbers printed)) (player_sets game.form player) (best_reply_to game.form player plan) traced
+    → HoldsAsReply player (leaf_sum player game.form.leaves (printed_numbers printed)) (player_sets game.form player) (best_reply_to game.form player plan)
+    traced
     (fraction_of (total_against game.form player plan) (game.unit * slice_index plan 0)) (game.unit * printed.root)
 reply_holds game player plan printed traced order back root is =
-    subst (λ (ys : List ℕ). HoldsAsReply player (leaf_sum player game.form.leaves ys) (player_sets game.form player) (best_reply_to game.form player plan) traced
+    subst (λ (ys : List ℕ). HoldsAsReply player (leaf_sum player game.form.leaves ys) (player_sets game.form player) (best_reply_to game.form player plan)
+    traced
     (fraction_of (total_against game.form player plan) (game.unit * slice_index plan 0)) (game.unit * printed.root)) (sym back)
     (record {
       tight = best-tight player (leaf_sum player game.form.leaves plan) (player_sets game.form player) order;
@@ -102,8 +105,10 @@ holds_in game run last every scale ends order_one order_two sums are =
           (plan_holds form.sets_one (run.weight ends.lower.round * scale) one is_one);
       plan_two = subst (λ n. HoldsAsPlan form.sets_two (run.weight n * scale) (printed_plan form.sets_two two)) (sym high_round)
           (plan_holds form.sets_two (run.weight ends.upper.round * scale) two is_two);
-      reply_two = reply_holds game Two one (printed_plan form.sets_one one) line.low order_two (numbers_back form.sets_one one is_one.all_sequences) refl total_low;
-      reply_one = reply_holds game One two (printed_plan form.sets_two two) line.high order_one (numbers_back form.sets_two two is_two.all_sequences) refl total_high;
+      reply_two = reply_holds game Two one (printed_plan form.sets_one one) line.low order_two (numbers_back form.sets_one one is_one.all_sequences) refl
+          total_low;
+      reply_one = reply_holds game One two (printed_plan form.sets_two two) line.high order_one (numbers_back form.sets_two two is_two.all_sequences) refl
+          total_high;
       trace = λ k d within. weighed_trace_never_widens form run every last k (k + 1) d sums.some_weight (omega arith) within;
     }
 
@@ -120,7 +125,8 @@ in_units : (game : WeighedGame) (last every scale : ℕ) (ends : BracketEnds) �
     → AreInOrder game.form.sets_two → 1 ≤ scale
     → ends_of (evaluations game.form scale every last) ≡ Some ends
     → let b = bounds_of_run game last every scale ends in
-    (fraction_of ends.lower.low (game.unit * (ends.lower.round * scale)) ≡ b.low) × (fraction_of ends.upper.high (game.unit * (ends.upper.round * scale)) ≡ b.high)
+    (fraction_of ends.lower.low (game.unit * (ends.lower.round * scale)) ≡ b.low)
+    × (fraction_of ends.upper.high (game.unit * (ends.upper.round * scale)) ≡ b.high)
 in_units game last every scale ends order_one order_two some_scale are =
     let form = game.form in
     let of_rounds = ends_are_of_their_rounds form scale every last ends are in
@@ -142,18 +148,22 @@ some_round game last every scale ends order_one order_two some_scale are =
     let b : PrintedBounds = bounds_of_run game last every scale ends in
     let units = in_units game last every scale ends order_one order_two some_scale are in
     ap (verdict game) (certificate_with game last every scale ends are)
-    ∙ (exact.with_bracket game head b (fraction_of ends.lower.low (game.unit * (ends.lower.round * scale))) (fraction_of ends.upper.high (game.unit * (ends.upper.round * scale)))).1
+    ∙ (exact.with_bracket game head b (fraction_of ends.lower.low (game.unit * (ends.lower.round * scale)))
+    (fraction_of ends.upper.high (game.unit * (ends.upper.round * scale)))).1
     (own_head-is game last every scale, holds game last every scale ends order_one order_two some_scale are, units.0, units.1)
 
 no_round : (game : WeighedGame) (last every scale : ℕ) → last ≡ 0
     → verdict game (certificate_of game.form (outcome game.form (own_head game last every scale))) ≡ Ok head_only
 no_round game last every scale none =
-    ap (verdict game) (certificate_without game last every scale none) ∙ (exact.head_alone game (own_head game last every scale)).1 (own_head-is game last every scale)
+    ap (verdict game) (certificate_without game last every scale none) ∙ (exact.head_alone game (own_head game last every scale)).1
+    (own_head-is game last every scale)
 
 -- with the game's head a run's certificate passes, and shows the head alone or the ends in payoff units
 pub accepted : TheCertificateOfARunIsAccepted
 accepted = record {
-  no_round = λ game head is none. ap (λ (g : Head). verdict game (certificate_of game.form (outcome game.form g))) (same_head game head is) ∙ no_round game head.rounds head.every head.scale none;
+  no_round = λ game head is none. ap (λ (g : Head). verdict game (certificate_of game.form (outcome game.form g))) (same_head game head is)
+      ∙ no_round game head.rounds head.every head.scale none;
   some_round = λ game head ends order_one order_two is some_unit some_scale are.
-      ap (λ (g : Head). verdict game (certificate_of game.form (outcome game.form g))) (same_head game head is) ∙ some_round game head.rounds head.every head.scale ends order_one order_two some_scale are;
+      ap (λ (g : Head). verdict game (certificate_of game.form (outcome game.form g))) (same_head game head is)
+      ∙ some_round game head.rounds head.every head.scale ends order_one order_two some_scale are;
 }

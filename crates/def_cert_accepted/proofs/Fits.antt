@@ -1,5 +1,6 @@
 -- The numbers of the certificate of a run are within their ranges.
-use Rattle.std.proofs.Common.{◌≡◌, ℕ, zero, suc, ◌+◌, ◌-◌, ◌*◌, ◌/◌, ◌^◌, ◌≤◌, ◌<◌, min, List, [], ◌∷◌, map, length, get_or, slice_index, take, drop, All, ℤ, pos, unsigned_abs, Option, Some, None, refl, sym, ap, ◌∙◌, subst, arith}
+use Rattle.std.proofs.Common.{◌≡◌, ℕ, zero, suc, ◌+◌, ◌-◌, ◌*◌, ◌/◌, ◌^◌, ◌≤◌, ◌<◌, min, List, [], ◌∷◌, map, length, get_or, slice_index, take, drop, All, ℤ}
+use Rattle.std.proofs.Common.{pos, unsigned_abs, Option, Some, None, refl, sym, ap, ◌∙◌, subst, arith}
 use Rattle.std.specs.List.{AllZip, range_with_len}
 use Rattle.std.proofs.Math.Nat.{div-le_self}
 use Rattle.std.proofs.lemmas.Nat.{mul-le}
@@ -76,7 +77,10 @@ sets_fit first (h ∷ hs) xs low order small each =
     let some = (All-head IsInOrder here rest order).0 in
     let few = All-head (λ (g : InformationSet). g.actions ≤ most_actions) h hs small in
     All-cons PlanWeightsFit (take h.actions xs) (by_sets hs (drop h.actions xs))
-    (record { count = (omega (arith, length-take h.actions xs, some), omega (arith, length-take h.actions xs, few)); each = All-take IsWeight h.actions xs each })
+    (record {
+      count = (omega (arith, length-take h.actions xs, some), omega (arith, length-take h.actions xs, few));
+      each = All-take IsWeight h.actions xs each;
+    })
     (sets_fit (first + h.actions) hs (drop h.actions xs) (omega (arith, length-drop h.actions xs)) (All-tail IsInOrder here rest order)
     (All-tail (λ (g : InformationSet). g.actions ≤ most_actions) h hs small) (All-drop IsWeight h.actions xs each))
 
@@ -204,7 +208,8 @@ up_to game last every scale k place e order_one order_two fits le low stands =
     let form = game.form in
     let r : ℕ = min ((place + 1) * every) last in
     let n = length-evaluations form scale every last fits.every.0 in
-    let is : get_or (evaluations form scale every last) place e ≡ evaluation form scale r = evaluation_at form scale every last place e fits.every.0 (omega arith) in
+    let is : get_or (evaluations form scale every last) place e ≡ evaluation form scale r = evaluation_at form scale every last place e fits.every.0
+    (omega arith) in
     let same : e ≡ evaluation form scale r = sym stands ∙ is in
     let first : 1 ≤ r = subst (λ (d : Evaluation). 1 ≤ d.round) is (each_is_of_a_round form (plain_run form scale) every last place e (omega arith)).some in
     let in_time : r ≤ last = omega arith in
@@ -235,7 +240,8 @@ line_fits game last every scale order_one order_two fits k line within =
     let at_upper = sym (get_or-take (k + 1) es upper.place ends.upper (omega (arith, upper.within))) ∙ upper.stands ends.upper in
     let l = up_to game last every scale k lower.place ends.lower order_one order_two fits (omega (arith, lower.within)) low at_lower in
     let u = up_to game last every scale k upper.place ends.upper order_one order_two fits (omega (arith, upper.within)) low at_upper in
-    let round : (get_or es k none).round ≡ min ((k + 1) * every) last = ap (λ (e : Evaluation). e.round) (evaluation_at form scale every last k none fits.every.0 low) in
+    let round : (get_or es k none).round ≡ min ((k + 1) * every) last = ap (λ (e : Evaluation). e.round)
+    (evaluation_at form scale every last k none fits.every.0 low) in
     subst (LineFits head k) (sym (trace_lines.each es k ends line none (omega arith) some.1))
     (record {
       round = round;
@@ -259,8 +265,16 @@ bounds_fit game last every scale ends order_one order_two small_one small_two fi
     let two : List ℕ = (rounds form scale ends.upper.round).sum_two in
     let low = evaluations_are_bounds form scale ends.lower.round order_one order_two fits.scale.0 of_rounds.of_lower.some in
     let high = evaluations_are_bounds form scale ends.upper.round order_one order_two fits.scale.0 of_rounds.of_upper.some in
-    let few_low : ends.lower.round * scale ≤ most_root = omega (arith, mul-le ends.lower.round scale most_rounds most_scale (omega (arith, of_rounds.of_lower.in_time, fits.rounds)) fits.scale.1) in
-    let few_high : ends.upper.round * scale ≤ most_root = omega (arith, mul-le ends.upper.round scale most_rounds most_scale (omega (arith, of_rounds.of_upper.in_time, fits.rounds)) fits.scale.1) in
+    let few_low : ends.lower.round * scale ≤ most_root = omega (
+      arith,
+      mul-le ends.lower.round scale most_rounds most_scale
+          (omega (arith, of_rounds.of_lower.in_time, fits.rounds)) fits.scale.1,
+    ) in
+    let few_high : ends.upper.round * scale ≤ most_root = omega (
+      arith,
+      mul-le ends.upper.round scale most_rounds most_scale
+          (omega (arith, of_rounds.of_upper.in_time, fits.rounds)) fits.scale.1,
+    ) in
     record {
       asked = omega (arith, of_rounds.of_lower.some, of_rounds.of_lower.in_time);
       trace = record {
@@ -298,4 +312,5 @@ pub fits_always : TheCertificateOfARunFits
 fits_always game head order_one order_two small_one small_two is fits =
     let same : head ≡ own_head game head.rounds head.every head.scale = same_head game head is in
     subst (λ (g : Head). CertificateFits (certificate_of game.form (outcome game.form g))) (sym same)
-    (by_ends game head.rounds head.every head.scale order_one order_two small_one small_two (subst HeadFits same fits) (ends_of (evaluations game.form head.scale head.every head.rounds)) refl)
+    (by_ends game head.rounds head.every head.scale order_one order_two small_one small_two (subst HeadFits same fits)
+    (ends_of (evaluations game.form head.scale head.every head.rounds)) refl)

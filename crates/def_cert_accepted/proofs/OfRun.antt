@@ -33,7 +33,17 @@ own_head game last every scale = record {
 
 -- the head that is made from a game is that game's
 pub own_head-is : (game : WeighedGame) (last every scale : ℕ) → IsHeadOf game (own_head game last every scale)
-own_head-is game last every scale = record { nodes = refl; leaves = refl; sets_one = refl; sets_two = refl; sequences_one = refl; sequences_two = refl; unit = refl; sum_is = refl; mass_is = refl }
+own_head-is game last every scale = record {
+  nodes = refl;
+  leaves = refl;
+  sets_one = refl;
+  sets_two = refl;
+  sequences_one = refl;
+  sequences_two = refl;
+  unit = refl;
+  sum_is = refl;
+  mass_is = refl;
+}
 
 -- a head that is the game's is the one made from it, with the same rounds and scale
 pub same_head : (game : WeighedGame) (head : Head) → IsHeadOf game head
@@ -43,8 +53,15 @@ same_head game head h =
     ∙ ap (λ n. record head { nodes = game.nodes; leaves = n }) h.leaves
     ∙ ap (λ n. record head { nodes = game.nodes; leaves = length game.form.leaves; sets_one = n }) h.sets_one
     ∙ ap (λ n. record head { nodes = game.nodes; leaves = length game.form.leaves; sets_one = length game.form.sets_one; sets_two = n }) h.sets_two
-    ∙ ap (λ n. record (own_head game head.rounds head.every head.scale) { sequences_one = n; sequences_two = head.sequences_two; unit = head.unit; sum = head.sum; mass = head.mass }) h.sequences_one
-    ∙ ap (λ n. record (own_head game head.rounds head.every head.scale) { sequences_two = n; unit = head.unit; sum = head.sum; mass = head.mass }) h.sequences_two
+    ∙ ap (λ n. record (own_head game head.rounds head.every head.scale) {
+      sequences_one = n;
+      sequences_two = head.sequences_two;
+      unit = head.unit;
+      sum = head.sum;
+      mass = head.mass;
+    }) h.sequences_one
+    ∙ ap (λ n. record (own_head game head.rounds head.every head.scale) { sequences_two = n; unit = head.unit; sum = head.sum; mass = head.mass })
+    h.sequences_two
     ∙ ap (λ n. record (own_head game head.rounds head.every head.scale) { unit = n; sum = head.sum; mass = head.mass }) h.unit
     ∙ ap (λ f. record (own_head game head.rounds head.every head.scale) { sum = f; mass = head.mass }) h.sum_is
     ∙ ap (λ n. record (own_head game head.rounds head.every head.scale) { mass = n }) h.mass_is
@@ -64,7 +81,8 @@ made_of : (form : SequenceForm) (o : Outcome) (head : Head) (lines : List TraceL
     → o.head ≡ head → o.trace ≡ lines → o.ends ≡ ends
     → certificate_of form o ≡ made form head lines ends
 unfolding made
-made_of form o head lines ends h l e = ap (λ (g : Head). made form g o.trace o.ends) h ∙ ap (λ (t : List TraceLine). made form head t o.ends) l ∙ ap (made form head lines) e
+made_of form o head lines ends h l e = ap (λ (g : Head). made form g o.trace o.ends) h ∙ ap (λ (t : List TraceLine). made form head t o.ends) l
+    ∙ ap (made form head lines) e
 
 -- where the run has ends, its certificate is the head with the bounds of these ends
 pub certificate_in : (game : WeighedGame) (run : WeighedRun) (last every scale : ℕ) (ends : BracketEnds)

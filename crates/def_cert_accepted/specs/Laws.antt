@@ -22,7 +22,8 @@ pub record TheCertificateOfARunIsAccepted : Type 0 where
       → 1 ≤ head.scale
       → ends_of (evaluations game.form head.scale head.every head.rounds) ≡ Some ends
       → verdict game (certificate_of game.form (outcome game.form head))
-      ≡ Ok (bracket (fraction_of ends.lower.low (game.unit * (ends.lower.round * head.scale))) (fraction_of ends.upper.high (game.unit * (ends.upper.round * head.scale))))
+      ≡ Ok (bracket (fraction_of ends.lower.low (game.unit * (ends.lower.round * head.scale)))
+      (fraction_of ends.upper.high (game.unit * (ends.upper.round * head.scale))))
 
 -- and its numbers are within their ranges, where those of the head are and no set has too many actions
 abbrev pub TheCertificateOfARunFits : Type 0

@@ -33,4 +33,7 @@ printed_bounds form unit lines ends = record {
 
 -- without ends there are no bounds
 abbrev pub certificate_of : SequenceForm → Outcome → Certificate
-certificate_of form outcome = record { head = outcome.head; bounds = option_map (printed_bounds form outcome.head.unit outcome.trace) outcome.ends }
+certificate_of form outcome = record {
+  head = outcome.head;
+  bounds = option_map (printed_bounds form outcome.head.unit outcome.trace) outcome.ends;
+}

@@ -1,12 +1,14 @@
 -- The laws of what is made of formats: behind a fixed field, under another form, many values, a value that is asked
 -- for, and a row of numbers.
-use Rattle.std.proofs.Common.{◌≡◌, ℕ, zero, suc, ◌+◌, ◌^◌, ◌<◌, ◌≤◌, Bool, true, false, cond, leb, List, [], ◌∷◌, ◌&&◌, Option, Some, None, Result, Ok, Err, refl, ap, ◌∙◌, arith}
+use Rattle.std.proofs.Common.{◌≡◌, ℕ, zero, suc, ◌+◌, ◌^◌, ◌<◌, ◌≤◌, Bool, true, false, cond, leb, List, [], ◌∷◌, ◌&&◌, Option, Some, None, Result, Ok, Err}
+use Rattle.std.proofs.Common.{refl, ap, ◌∙◌, arith}
 use Rattle.std.specs.Prelude.{not}
 use Rattle.std.specs.Fmt.{decimal}
 use Rattle.std.proofs.lemmas.Bool.{and_parts, and_from, le-leb}
 use Rattle.def_cert_text.specs.declared.fault.CertFault.{CertFault}
 use Rattle.def_cert_text.specs.Fields.{◌>>=◌, space, feed, FieldKind, number, field, separator, is_field_byte}
-use Rattle.def_cert_text.specs.Formats.{Format, whole_field, fixed_field, after_fixed, and_then, seen_as, each_fits, each_items, read_each, each_from, where_asked, row_fits, row_items, read_number, read_last, read_row, row_of_numbers}
+use Rattle.def_cert_text.specs.Formats.{Format, whole_field, fixed_field, after_fixed, and_then, seen_as, each_fits, each_items, read_each, each_from}
+use Rattle.def_cert_text.specs.Formats.{where_asked, row_fits, row_items, read_number, read_last, read_row, row_of_numbers}
 use Rattle.def_cert_text.proofs.FieldLaws.{all_pass}
 use Rattle.def_cert_text.proofs.FormatLaws.{IsFormat, view_laws, nothing_laws, pair_laws}
 use Rattle.def_cert_text.proofs.FieldFormatLaws.{whole_laws, fixed_laws, is_from_to, number_with_end, number_laws, got}

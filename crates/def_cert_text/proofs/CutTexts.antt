@@ -1,5 +1,6 @@
 -- A text that is cut anywhere is short.
-use Rattle.std.proofs.Common.{◌≡◌, ℕ, zero, suc, ◌+◌, ◌-◌, ◌<◌, ◌≤◌, true, List, [], ◌∷◌, ◌++◌, length, take, refl, sym, ap, ◌∙◌, append_assoc, arith, ◌⊎◌, ⊎_elim}
+use Rattle.std.proofs.Common.{◌≡◌, ℕ, zero, suc, ◌+◌, ◌-◌, ◌<◌, ◌≤◌, true, List, [], ◌∷◌, ◌++◌, length, take, refl, sym, ap, ◌∙◌, append_assoc, arith, ◌⊎◌}
+use Rattle.std.proofs.Common.{⊎_elim}
 use Rattle.std.proofs.lemmas.List.{length-append, take-append-le}
 use Rattle.std.proofs.Math.Seq.{take-append-add}
 use Rattle.std.proofs.lemmas.Bool.{and_parts, and_from, cases_lt}
@@ -28,7 +29,8 @@ record ItemsAreCut (items : List TextItem) (n : ℕ) : Type 0 where
 pass_take : (n : ℕ) (bs : List ℕ) → all_pass is_field_byte bs ≡ true → all_pass is_field_byte (take n bs) ≡ true
 pass_take zero bs h = refl
 pass_take (suc n) [] h = refl
-pass_take (suc n) (b ∷ bs) h = let q = and_parts (is_field_byte b) (all_pass is_field_byte bs) h in and_from (is_field_byte b) (all_pass is_field_byte (take n bs)) q.0 (pass_take n bs q.1)
+pass_take (suc n) (b ∷ bs) h = let q = and_parts (is_field_byte b) (all_pass is_field_byte bs) h in and_from (is_field_byte b)
+    (all_pass is_field_byte (take n bs)) q.0 (pass_take n bs q.1)
 
 within_first : (item : TextItem) (items : List TextItem) (n : ℕ) → is_clean item ≡ true → n < length (item_bytes item)
     → ItemsAreCut (item ∷ items) n
@@ -74,7 +76,8 @@ cut_at (item ∷ items) n clean low =
       more = rest.more;
       left = rest.left;
       items_are = ap (λ (ts : List TextItem). item ∷ ts) rest.items_are;
-      bytes_are = ap (λ k. take k (bytes ++ items_text items)) sum ∙ take-append-add bytes (items_text items) m ∙ ap (λ (bs : List ℕ). bytes ++ bs) rest.bytes_are
+      bytes_are = ap (λ k. take k (bytes ++ items_text items)) sum ∙ take-append-add bytes (items_text items) m
+          ∙ ap (λ (bs : List ℕ). bytes ++ bs) rest.bytes_are
           ∙ sym (append_assoc bytes (items_text rest.front) rest.left);
       short = rest.short;
       whole_before = rest.whole_before;

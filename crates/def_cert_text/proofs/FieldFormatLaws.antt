@@ -1,5 +1,6 @@
 -- The laws of a field and its separator, and of a whole number with the end of its line.
-use Rattle.std.proofs.Common.{◌≡◌, ℕ, suc, ◌+◌, ◌-◌, ◌^◌, ◌≤◌, Bool, true, false, cond, eqb, leb, List, [], ◌∷◌, ◌++◌, ◌&&◌, ◌||◌, length, take, Option, Some, None, Result, Ok, Err, ℤ, unsigned_abs, refl, sym, ap, ◌∙◌, subst, append_assoc, arith}
+use Rattle.std.proofs.Common.{◌≡◌, ℕ, suc, ◌+◌, ◌-◌, ◌^◌, ◌≤◌, Bool, true, false, cond, eqb, leb, List, [], ◌∷◌, ◌++◌, ◌&&◌, ◌||◌, length, take, Option, Some}
+use Rattle.std.proofs.Common.{None, Result, Ok, Err, ℤ, unsigned_abs, refl, sym, ap, ◌∙◌, subst, append_assoc, arith}
 use Rattle.std.specs.Prelude.{not}
 use Rattle.std.specs.List.{prefix_len}
 use Rattle.std.specs.Cmp.Lexicographic.{pointwise, same_text}
@@ -11,11 +12,15 @@ use Rattle.def_fraction.specs.Text.{fraction_text}
 use Rattle.def_fraction.proofs.DivisorLemmas.{gcd-with_one}
 use Rattle.def_cert_text.specs.declared.fault.CertFault.{CertFault}
 use Rattle.def_cert_text.specs.declared.fault.CertFault.TheVariants.{CertSyntax, CertNumber, CertShort}
-use Rattle.def_cert_text.specs.Fields.{◌>>=◌, space, feed, FieldKind, number, TextItem, field, separator, items_text, is_field_byte, next_field, behind_field, is_empty, field_fault, if_fit, read_field}
+use Rattle.def_cert_text.specs.Fields.{◌>>=◌, space, feed, FieldKind, number, TextItem, field, separator, items_text, is_field_byte, next_field, behind_field}
+use Rattle.def_cert_text.specs.Fields.{is_empty, field_fault, if_fit, read_field}
 use Rattle.def_cert_text.specs.Numbers.{whole_in, integer_in, fraction_in, unless_zero, nonzero_in}
-use Rattle.def_cert_text.specs.Formats.{Format, text_of, one_field, whole_field, integer_field, is_lowest_within, fraction_field, nonzero_field, same_bytes, fixed_field, with_end_if_fit, read_number}
+use Rattle.def_cert_text.specs.Formats.{Format, text_of, one_field, whole_field, integer_field, is_lowest_within, fraction_field, nonzero_field, same_bytes}
+use Rattle.def_cert_text.specs.Formats.{fixed_field, with_end_if_fit, read_number}
 use Rattle.def_cert_text.specs.FirstFault.{Place, of_field, of_separator, place_of_item, StopsReading, cut_short, unfit, HasFirstFault}
-use Rattle.def_cert_text.proofs.FieldLaws.{ok_is, all_pass, front_is, behind_is, behind_all, parted, stops, word_itself, whole_again, whole_only, decimal_inside, integer_again, integer_only, integer_inside, lowest_parts, lowest_from, fraction_inside, fraction_again, fraction_only}
+use Rattle.def_cert_text.proofs.FieldLaws.{ok_is, all_pass, front_is, behind_is, behind_all, parted, stops, word_itself, whole_again, whole_only}
+use Rattle.def_cert_text.proofs.FieldLaws.{decimal_inside, integer_again, integer_only, integer_inside, lowest_parts, lowest_from, fraction_inside}
+use Rattle.def_cert_text.proofs.FieldLaws.{fraction_again, fraction_only}
 use Rattle.def_cert_text.proofs.FormatLaws.{IsFormat, view_laws}
 
 -- ---- a field with one of some separators, which is part of the value
@@ -136,7 +141,16 @@ any_fault A kind fits spelled test ok is seps total bytes fault o [] he hr e = r
   left = bytes;
   parts = refl;
   whole_before = λ h. absurd cc;
-  needed = (field kind (spelled is.some), refl, ((is.some, seps.some_sep), separator seps.some_sep ∷ [], and_from (fits is.some) (ok seps.some_sep) is.some_fits seps.some_ok, refl));
+  needed = (
+    field kind (spelled is.some),
+    refl,
+    (
+      (is.some, seps.some_sep),
+      separator seps.some_sep ∷ [],
+      and_from (fits is.some) (ok seps.some_sep) is.some_fits seps.some_ok,
+      refl,
+    ),
+  );
   stop = cut_short (ap is_empty hr) (sym (err_same ((A × ℕ) × List ℕ) CertShort fault e));
 }
 any_fault A kind fits spelled test ok is seps total bytes fault None (b ∷ more) he hr e = record {
@@ -145,7 +159,16 @@ any_fault A kind fits spelled test ok is seps total bytes fault None (b ∷ more
   left = bytes;
   parts = refl;
   whole_before = λ h. absurd cc;
-  needed = (field kind (spelled is.some), refl, ((is.some, seps.some_sep), separator seps.some_sep ∷ [], and_from (fits is.some) (ok seps.some_sep) is.some_fits seps.some_ok, refl));
+  needed = (
+    field kind (spelled is.some),
+    refl,
+    (
+      (is.some, seps.some_sep),
+      separator seps.some_sep ∷ [],
+      and_from (fits is.some) (ok seps.some_sep) is.some_fits seps.some_ok,
+      refl,
+    ),
+  );
   stop = unfit (ap is_empty hr) (λ p.
       (let q = and_parts (fits p.0.0) (ok p.0.1) p.2 in
       let same = first_same kind (spelled p.0.0) (next_field bytes) (separator p.0.1 ∷ []) p.1 p.3 in
@@ -161,7 +184,16 @@ any_fault A kind fits spelled test ok is seps total bytes fault (Some x) (b ∷ 
       left = b ∷ more;
       parts = sym (parted is_field_byte bytes) ∙ (λ i. sym (append-nil (next_field bytes)) i ++ hr i);
       whole_before = λ h. no_field b more (stops is_field_byte bytes b more hr);
-      needed = (separator seps.some_sep, refl, ((x, seps.some_sep), [], and_from (fits x) (ok seps.some_sep) q.0 seps.some_ok, ap (λ (u : List ℕ). field kind u ∷ separator seps.some_sep ∷ []) (sym q.1)));
+      needed = (
+        separator seps.some_sep,
+        refl,
+        (
+          (x, seps.some_sep),
+          [],
+          and_from (fits x) (ok seps.some_sep) q.0 seps.some_ok,
+          ap (λ (u : List ℕ). field kind u ∷ separator seps.some_sep ∷ []) (sym q.1),
+        ),
+      );
       stop = unfit refl (λ p.
           (let f = and_parts (fits p.0.0) (ok p.0.1) p.2 in
           let same = second_same kind (spelled p.0.0) (next_field bytes) p.0.1 b [] p.1 p.3 in
@@ -181,7 +213,12 @@ short_or A kind fits spelled test ok is seps total bytes fault o (b ∷ more) he
 short_or A kind fits spelled test ok is seps total bytes fault None (b ∷ more) he hr (unfit long none f) = ap Err (sym f)
 short_or A kind fits spelled test ok is seps total bytes fault (Some x) (b ∷ more) he hr (unfit long none f) =
     let q = is.only (next_field bytes) x he in
-    absurd (none ((x, seps.some_sep), separator seps.some_sep ∷ [], and_from (fits x) (ok seps.some_sep) q.0 seps.some_ok, ap (λ (u : List ℕ). field kind u ∷ separator seps.some_sep ∷ []) (sym q.1)))
+    absurd (none (
+      (x, seps.some_sep),
+      separator seps.some_sep ∷ [],
+      and_from (fits x) (ok seps.some_sep) q.0 seps.some_ok,
+      ap (λ (u : List ℕ). field kind u ∷ separator seps.some_sep ∷ []) (sym q.1),
+    ))
 
 byte_by : (b : ℕ) (more : List ℕ) (t : Bool) → is_field_byte b ≡ t → next_field (b ∷ more) ≡ []
     → is_field_byte b ≡ false
@@ -258,7 +295,8 @@ any_laws A kind fits spelled test ok is seps = record {
   some_fits = and_from (fits is.some) (ok seps.some_sep) is.some_fits seps.some_ok;
   clean = λ p fit.
       let q = and_parts (fits p.0) (ok p.1) fit in
-      and_from (all_pass is_field_byte (spelled p.0)) (not (is_field_byte p.1) && true) (is.inside p.0 q.0) (and_from (not (is_field_byte p.1)) true (ap not (seps.separates p.1 q.1)) refl);
+      and_from (all_pass is_field_byte (spelled p.0)) (not (is_field_byte p.1) && true) (is.inside p.0 q.0)
+      (and_from (not (is_field_byte p.1)) true (ap not (seps.separates p.1 q.1)) refl);
   faults = λ total bytes fault e. any_fault A kind fits spelled test ok is seps total bytes fault (test (next_field bytes)) (behind_field bytes) refl refl e;
   found = λ total bytes fault h.
       let p = h.needed.2 in
@@ -353,18 +391,20 @@ nonzero_only (Some g) f e = by (is_zero g) refl e
 pub nonzero_laws : (most sep : ℕ) → 1 ≤ most → most ≤ 2 ^ 126 → is_field_byte sep ≡ false
     → IsFormat Fraction (nonzero_field most sep)
 unfolding nonzero_in
-nonzero_laws most sep one small s = one_field_laws Fraction number (λ f. is_lowest_within most f && not (is_zero f)) fraction_text (nonzero_in most) sep s (record {
-  inside = λ f fits. fraction_inside most f small (lowest_parts most f (parts f fits).0);
-  again = λ f fits.
-      ap unless_zero (fraction_again most f small (lowest_parts most f (parts f fits).0))
-      ∙ ap (λ t. cond t None (Some f)) (not-true (is_zero f) (parts f fits).1);
-  only = λ bytes f e.
-      let q = nonzero_only (fraction_in most bytes) f e in
-      let r = fraction_only most f bytes small one q.0 in
-      (and_from (is_lowest_within most f) (not (is_zero f)) (lowest_from most f r.0) q.1, r.1);
-  some = record { num = ℤ.pos 1; den = 1 };
-  some_fits = and_from (is_lowest_within most (record { num = ℤ.pos 1; den = 1 })) true (lowest_from most (record { num = ℤ.pos 1; den = 1 }) (record { positive = omega arith; coprime = gcd-with_one 1; num = one; den = one })) refl;
-})
+nonzero_laws most sep one small s = one_field_laws Fraction number (λ f. is_lowest_within most f && not (is_zero f)) fraction_text (nonzero_in most) sep s
+    (record {
+      inside = λ f fits. fraction_inside most f small (lowest_parts most f (parts f fits).0);
+      again = λ f fits.
+          ap unless_zero (fraction_again most f small (lowest_parts most f (parts f fits).0))
+          ∙ ap (λ t. cond t None (Some f)) (not-true (is_zero f) (parts f fits).1);
+      only = λ bytes f e.
+          let q = nonzero_only (fraction_in most bytes) f e in
+          let r = fraction_only most f bytes small one q.0 in
+          (and_from (is_lowest_within most f) (not (is_zero f)) (lowest_from most f r.0) q.1, r.1);
+      some = record { num = ℤ.pos 1; den = 1 };
+      some_fits = and_from (is_lowest_within most (record { num = ℤ.pos 1; den = 1 })) true
+          (lowest_from most (record { num = ℤ.pos 1; den = 1 }) (record { positive = omega arith; coprime = gcd-with_one 1; num = one; den = one })) refl;
+    })
   where
     parts : (f : Fraction) → (is_lowest_within most f && not (is_zero f)) ≡ true
         → (is_lowest_within most f ≡ true) × (not (is_zero f) ≡ true)
@@ -416,19 +456,23 @@ end_rest : (fault : CertFault) (total : ℕ) (o : Option ℕ) (r : List ℕ)
     ≡ (any_rest fault is_separator total o r >>= λ p. got (p.0.0, eqb p.0.1 feed) p.1)
 end_rest fault total o [] s = refl
 end_rest fault total None (b ∷ left) s = refl
-end_rest fault total (Some n) (b ∷ left) s = sym (ap (λ t. pair_sep (CertSyntax (total - length (b ∷ left))) n b left (not t) >>= λ p. got (p.0.0, eqb p.0.1 feed) p.1) (s b left refl))
+end_rest fault total (Some n) (b ∷ left) s = sym (ap (λ t. pair_sep (CertSyntax (total - length (b ∷ left))) n b left (not t) >>= λ p. got
+    (p.0.0, eqb p.0.1 feed) p.1) (s b left refl))
 
 -- the field of a number of a range, and whether it ends its line, keeps the laws where the range isn't empty
 -- and its end is 2 ^ 127 at most
 pub number_laws : (low high : ℕ) → low ≤ high → high ≤ 2 ^ 127 → IsFormat (ℕ × Bool) (number_with_end low high)
 unfolding read_number
 number_laws low high some small =
-    view_laws (ℕ × ℕ) (ℕ × Bool) (any_field number (is_from_to low high) decimal (whole_in low high) is_separator) (number_with_end low high) (λ p. (p.0, eqb p.1 feed))
+    view_laws (ℕ × ℕ) (ℕ × Bool) (any_field number (is_from_to low high) decimal (whole_in low high) is_separator) (number_with_end low high)
+    (λ p. (p.0, eqb p.1 feed))
     (record {
       fits = λ p fit. (and_parts (is_from_to low high p.0) (is_separator p.1) fit).0;
       back = λ y fit. back y.0 y.1 fit;
-      items = λ p fit. (λ i. field number (decimal p.0) ∷ separator (sep_by p.1 (eqb p.1 32) (eqb p.1 10) refl refl (and_parts (is_from_to low high p.0) (is_separator p.1) fit).1 i) ∷ []);
-      read = λ total bytes. end_rest (CertNumber (total - length bytes)) total (whole_in low high (next_field bytes)) (behind_field bytes) (λ b more h. stops is_field_byte bytes b more h);
+      items = λ p fit. (λ i. field number (decimal p.0) ∷ separator (sep_by p.1 (eqb p.1 32) (eqb p.1 10) refl refl
+          (and_parts (is_from_to low high p.0) (is_separator p.1) fit).1 i) ∷ []);
+      read = λ total bytes. end_rest (CertNumber (total - length bytes)) total (whole_in low high (next_field bytes)) (behind_field bytes)
+          (λ b more h. stops is_field_byte bytes b more h);
     })
     (any_laws ℕ number (is_from_to low high) decimal (whole_in low high) is_separator (record {
       inside = λ n fits. (let p = and_parts (leb low n) (leb n high) fits in decimal_inside n (omega (arith, leb-true n high p.1)));

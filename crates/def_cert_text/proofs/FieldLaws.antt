@@ -1,5 +1,7 @@
 -- A field that is written is read again, and what is read of a field was written so.
-use Rattle.std.proofs.Common.{◌≡◌, ℕ, zero, suc, ◌+◌, ◌-◌, ◌*◌, ◌/◌, ◌%◌, ◌^◌, ◌<◌, ◌≤◌, Bool, true, false, cond, eqb, leb, List, [], ◌∷◌, ◌++◌, ◌&&◌, length, take, drop, get_or, Option, Some, None, Result, Ok, Err, ℤ, pos, negsuc, unsigned_abs, refl, sym, ap, ◌∙◌, subst, append_assoc, arith, ⊎_elim}
+use Rattle.std.proofs.Common.{◌≡◌, ℕ, zero, suc, ◌+◌, ◌-◌, ◌*◌, ◌/◌, ◌%◌, ◌^◌, ◌<◌, ◌≤◌, Bool, true, false, cond, eqb, leb, List, [], ◌∷◌, ◌++◌, ◌&&◌, length}
+use Rattle.std.proofs.Common.{take, drop, get_or, Option, Some, None, Result, Ok, Err, ℤ, pos, negsuc, unsigned_abs, refl, sym, ap, ◌∙◌, subst, append_assoc}
+use Rattle.std.proofs.Common.{arith, ⊎_elim}
 use Rattle.std.specs.Prelude.{not}
 use Rattle.std.specs.List.{prefix_len}
 use Rattle.std.specs.Char.{is_ascii_digit}
@@ -74,11 +76,13 @@ run_all p (x ∷ xs) h =
     ap (λ t. cond t (1 + prefix_len p xs) 0) q.0 ∙ ap (λ n. 1 + n) (run_all p xs q.1) ∙ omega arith
 
 pub front_all : (p : ℕ → Bool) (front : List ℕ) → all_pass p front ≡ true → take (prefix_len p front) front ≡ front
-front_all p front h = ap (λ n. take n front) (run_all p front h) ∙ ap (λ (xs : List ℕ). take (length front) xs) (sym (append-nil front)) ∙ take_at front [] (length front) refl
+front_all p front h = ap (λ n. take n front) (run_all p front h) ∙ ap (λ (xs : List ℕ). take (length front) xs) (sym (append-nil front))
+    ∙ take_at front [] (length front) refl
 
 -- where all bytes pass a test, nothing stands behind the longest run that passes
 pub behind_all : (p : ℕ → Bool) (front : List ℕ) → all_pass p front ≡ true → drop (prefix_len p front) front ≡ []
-behind_all p front h = ap (λ n. drop n front) (run_all p front h) ∙ ap (λ (xs : List ℕ). drop (length front) xs) (sym (append-nil front)) ∙ drop_at front [] (length front) refl
+behind_all p front h = ap (λ n. drop n front) (run_all p front h) ∙ ap (λ (xs : List ℕ). drop (length front) xs) (sym (append-nil front))
+    ∙ drop_at front [] (length front) refl
 
 -- the longest run that passes a test and what stands behind it make all the bytes
 pub parted : (p : ℕ → Bool) (bytes : List ℕ)
@@ -146,8 +150,12 @@ pub field_only : {A : Type 0} (kind : FieldKind) (test : List ℕ → Option A) 
     → (front : List ℕ) × (test front ≡ Some x) × (bytes ≡ (front ++ sep ∷ []) ++ left)
 unfolding read_field
 field_only kind test sep total bytes x left e =
-    let p = only_some (field_fault kind (total - length bytes)) sep total (test (next_field bytes)) (behind_field bytes) x left e in
-    (next_field bytes, p.0, sym (parted is_field_byte bytes) ∙ ap (λ (r : List ℕ). next_field bytes ++ r) p.1 ∙ sym (append_assoc (next_field bytes) (sep ∷ []) left))
+    let p = only_some (field_fault kind (total - length bytes)) sep total (test (next_field bytes)) (behind_field bytes) x left e in (
+      next_field bytes,
+      p.0,
+      sym (parted is_field_byte bytes) ∙ ap (λ (r : List ℕ). next_field bytes ++ r) p.1
+          ∙ sym (append_assoc (next_field bytes) (sep ∷ []) left),
+    )
 
 -- ---- words
 -- compared byte by byte, a word is equal to itself
@@ -172,7 +180,8 @@ digit_no_slash d h =
 digits_pass : (p : ℕ → Bool) → ((d : ℕ) → is_ascii_digit d ≡ true → p d ≡ true) → (ds : List ℕ)
     → all_ascii_digits ds ≡ true → all_pass p ds ≡ true
 digits_pass p each [] h = refl
-digits_pass p each (d ∷ ds) h = let q = and_parts (is_ascii_digit d) (all_ascii_digits ds) h in and_from (p d) (all_pass p ds) (each d q.0) (digits_pass p each ds q.1)
+digits_pass p each (d ∷ ds) h = let q = and_parts (is_ascii_digit d) (all_ascii_digits ds) h in and_from (p d) (all_pass p ds) (each d q.0)
+    (digits_pass p each ds q.1)
 
 -- digits behind a number
 value_behind : (n : ℕ) (cs : List ℕ) → 0 < n → all_ascii_digits cs ≡ true → n * 10 ^ length cs + number_of cs < 10 ^ 64
@@ -184,7 +193,8 @@ value_behind n (c ∷ cs) some d small =
     let m : ℕ = n * 10 + (c - 48) in
     let t = 10 ^ length cs in
     let power : 10 ^ length (c ∷ cs) ≡ t * 10 = pow-suc 10 (length cs) in
-    let whole : n * 10 ^ length (c ∷ cs) + ((c - 48) * t + number_of cs) ≡ m * t + number_of cs = ap (λ q. n * q + ((c - 48) * t + number_of cs)) power ∙ omega arith in
+    let whole : n * 10 ^ length (c ∷ cs) + ((c - 48) * t + number_of cs) ≡ m * t + number_of cs = ap (λ q. n * q + ((c - 48) * t + number_of cs)) power
+    ∙ omega arith in
     let front : m / 10 ≡ n = omega arith in
     let end : 48 + m % 10 ≡ c = omega arith in
     let less : m ≤ m * t + number_of cs = omega (arith, mul-le m 1 m t (omega arith) (one-le-pow (length cs) 10 (omega arith))) in
@@ -233,7 +243,8 @@ unfolding whole_in
 whole_again low high n small a b =
     let t = decimal_is n (omega arith) in
     let f : List ℕ = decimal n in
-    let inner : (leb low (number_of f) && leb (number_of f) high) ≡ true = and_from _ _ (le-leb low (number_of f) (omega (arith, t.value))) (le-leb (number_of f) high (omega (arith, t.value))) in
+    let inner : (leb low (number_of f) && leb (number_of f) high) ≡ true = and_from _ _ (le-leb low (number_of f) (omega (arith, t.value)))
+    (le-leb (number_of f) high (omega (arith, t.value))) in
     ap (λ b. cond b (Some (number_of f)) None) (and_from (is_numeral f) _ t.numeral (and_from (leads_no_zero f) _ t.plain inner)) ∙ ap Some t.value
 
 some_if : (b : Bool) (m n : ℕ) → cond b (Some m) None ≡ Some n → (b ≡ true) × (m ≡ n)
@@ -342,7 +353,12 @@ lowest_parts most f fits =
     let a = and_parts (leb 1 f.den && eqb (gcd (unsigned_abs f.num) f.den) 1) (leb (unsigned_abs f.num) most && leb f.den most) fits in
     let b = and_parts (leb 1 f.den) (eqb (gcd (unsigned_abs f.num) f.den) 1) a.0 in
     let c = and_parts (leb (unsigned_abs f.num) most) (leb f.den most) a.1 in
-    record { positive = leb-true 1 f.den b.0; coprime = eqb-true (gcd (unsigned_abs f.num) f.den) 1 b.1; num = leb-true (unsigned_abs f.num) most c.0; den = leb-true f.den most c.1 }
+    record {
+      positive = leb-true 1 f.den b.0;
+      coprime = eqb-true (gcd (unsigned_abs f.num) f.den) 1 b.1;
+      num = leb-true (unsigned_abs f.num) most c.0;
+      den = leb-true f.den most c.1;
+    }
 
 -- a fraction in lowest terms passes the test, where its denominator isn't 0 and both parts are within the limit
 pub lowest_from : (most : ℕ) (f : Fraction) → IsLowestWithin most f → is_lowest_within most f ≡ true
@@ -357,7 +373,8 @@ text_by f one = cond one (signed_decimal f.num) (signed_decimal f.num ++ slash �
 fraction_inside_by : (most : ℕ) (f : Fraction) (one : Bool) → most ≤ 2 ^ 126 → IsLowestWithin most f
     → all_pass is_field_byte (text_by f one) ≡ true
 fraction_inside_by most f true small is = integer_inside f.num (omega (arith, is.num))
-fraction_inside_by most f false small is = pass_append is_field_byte (signed_decimal f.num) (slash ∷ decimal f.den) (integer_inside f.num (omega (arith, is.num))) (decimal_inside f.den (omega (arith, is.den)))
+fraction_inside_by most f false small is = pass_append is_field_byte (signed_decimal f.num) (slash ∷ decimal f.den)
+    (integer_inside f.num (omega (arith, is.num))) (decimal_inside f.den (omega (arith, is.den)))
 
 -- the text of a fraction in lowest terms whose parts are 2 ^ 126 at most holds no space and no line feed
 pub fraction_inside : (most : ℕ) (f : Fraction) → most ≤ 2 ^ 126 → IsLowestWithin most f
@@ -408,7 +425,11 @@ over_only num (Some den) f e = (let p = by (eqb (gcd (unsigned_abs num) den) 1) 
     by : (t : Bool) → eqb (gcd (unsigned_abs num) den) 1 ≡ t
         → cond (eqb (gcd (unsigned_abs num) den) 1) (Some (record { num = num; den = den })) None ≡ Some f
         → (gcd (unsigned_abs num) den ≡ 1) × (record { num = num; den = den } ≡ f)
-    by true h e = (eqb-true (gcd (unsigned_abs num) den) 1 h, some_same (record { num = num; den = den }) (sym (ap (λ t. cond t (Some (record { num = num; den = den })) None) h) ∙ e))
+    by true h e = (
+      eqb-true (gcd (unsigned_abs num) den) 1 h,
+      some_same (record { num = num; den = den })
+          (sym (ap (λ t. cond t (Some (record { num = num; den = den })) None) h) ∙ e),
+    )
       where
         some_same : (g : Fraction) → Some g ≡ Some f → g ≡ f
         some_same g e = cc

@@ -1,5 +1,6 @@
 -- The values that the formats take are those within the ranges of a certificate.
-use Rattle.std.proofs.Common.{◌≡◌, ℕ, zero, suc, ◌+◌, ◌*◌, ◌^◌, ◌<◌, ◌≤◌, min, Bool, true, false, leb, ltb, List, [], ◌∷◌, ◌&&◌, length, get_or, Option, Some, None, All, unsigned_abs, refl, sym, ap, ◌∙◌, arith}
+use Rattle.std.proofs.Common.{◌≡◌, ℕ, zero, suc, ◌+◌, ◌*◌, ◌^◌, ◌<◌, ◌≤◌, min, Bool, true, false, leb, ltb, List, [], ◌∷◌, ◌&&◌, length, get_or, Option, Some}
+use Rattle.std.proofs.Common.{None, All, unsigned_abs, refl, sym, ap, ◌∙◌, arith}
 use Rattle.std.proofs.lemmas.Bool.{and_parts, and_from, leb-true, le-leb, ltb-true, lt-ltb}
 use Rattle.std.proofs.lemmas.List.Elements.{All-cons, All-nil, All-head, All-tail}
 use Rattle.std.specs.Prelude.{codes}
@@ -8,12 +9,14 @@ use Rattle.def_reply.specs.Reply.{SetReply, Reply}
 use Rattle.def_reply.specs.declared.TraceLine.{TraceLine}
 use Rattle.def_reply.specs.Outcome.{Head}
 use Rattle.def_cert_verdict.specs.Certificate.{PrintedPlan, PrintedBounds, Certificate}
-use Rattle.def_cert_verdict.specs.Ranges.{IsFromTo, IsPrintable, FractionFits, HeadFits, LineFits, TraceFits, PlanWeightsFit, PlanFits, ReplyFits, BoundsFit, FitsBelowHead, CertificateFits}
+use Rattle.def_cert_verdict.specs.Ranges.{IsFromTo, IsPrintable, FractionFits, HeadFits, LineFits, TraceFits, PlanWeightsFit, PlanFits, ReplyFits, BoundsFit}
+use Rattle.def_cert_verdict.specs.Ranges.{FitsBelowHead, CertificateFits}
 use Rattle.def_cert_text.specs.Formats.{Format, is_lowest_within, each_fits, asked_fits, row_fits}
 use Rattle.def_cert_text.specs.Versions.{PrintedBracket, VersionedCertificate, has_second, SecondFits, VersionedFits}
 use Rattle.def_cert_text.specs.declared.version.TextVersion.{TextVersion}
 use Rattle.def_cert_text.specs.declared.version.TextVersion.TheVariants as versions
-use Rattle.def_cert_text.specs.CertText.{payoff_lines, head_lines_of, line_of_round, round_of_evaluation, evaluation_count, trace_lines, weights_line, plan_lines, value_line, reply_lines, bounds_lines, second_line, versioned_certificate}
+use Rattle.def_cert_text.specs.CertText.{payoff_lines, head_lines_of, line_of_round, round_of_evaluation, evaluation_count, trace_lines, weights_line}
+use Rattle.def_cert_text.specs.CertText.{plan_lines, value_line, reply_lines, bounds_lines, second_line, versioned_certificate}
 use Rattle.def_cert_text.proofs.FieldLaws.{lowest_parts, lowest_from}
 
 -- ---- numbers
@@ -62,7 +65,8 @@ payoffs_taken : (v : TextVersion) (unit : ℕ) (sum : Fraction) (mass : ℕ) →
     → payoffs_taken_by v unit sum mass ≡ true
 payoffs_taken versions.One unit sum mass f =
     and_from (is_within 1 (2 ^ 62) unit && is_lowest_within (2 ^ 62) sum) (is_within 0 (2 ^ 62) mass)
-    (and_from (is_within 1 (2 ^ 62) unit) (is_lowest_within (2 ^ 62) sum) (to_within 1 (2 ^ 62) unit f.unit_is) (fraction_taken (2 ^ 62) sum f.sum_is)) (up_to (2 ^ 62) mass f.mass_is)
+    (and_from (is_within 1 (2 ^ 62) unit) (is_lowest_within (2 ^ 62) sum) (to_within 1 (2 ^ 62) unit f.unit_is) (fraction_taken (2 ^ 62) sum f.sum_is))
+    (up_to (2 ^ 62) mass f.mass_is)
 payoffs_taken versions.Two unit sum mass f =
     and_from (is_within 1 (2 ^ 62) unit) (is_within 0 (2 ^ 62) mass && is_lowest_within (2 ^ 62) sum) (to_within 1 (2 ^ 62) unit f.unit_is)
     (and_from (is_within 0 (2 ^ 62) mass) (is_lowest_within (2 ^ 62) sum) (up_to (2 ^ 62) mass f.mass_is) (fraction_taken (2 ^ 62) sum f.sum_is))
@@ -114,7 +118,8 @@ head_taken v h f =
     (and_from (is_within 0 (2 ^ 20) h.sets_one && is_within 0 (2 ^ 20) h.sets_two) _
     (and_from (is_within 0 (2 ^ 20) h.sets_one) (is_within 0 (2 ^ 20) h.sets_two) (up_to (2 ^ 20) h.sets_one f.sets_one) (up_to (2 ^ 20) h.sets_two f.sets_two))
     (and_from (is_within 1 (2 ^ 20) h.sequences_one && is_within 1 (2 ^ 20) h.sequences_two) (payoffs_of v h)
-    (and_from (is_within 1 (2 ^ 20) h.sequences_one) (is_within 1 (2 ^ 20) h.sequences_two) (to_within 1 (2 ^ 20) h.sequences_one f.sequences_one) (to_within 1 (2 ^ 20) h.sequences_two f.sequences_two))
+    (and_from (is_within 1 (2 ^ 20) h.sequences_one) (is_within 1 (2 ^ 20) h.sequences_two) (to_within 1 (2 ^ 20) h.sequences_one f.sequences_one)
+    (to_within 1 (2 ^ 20) h.sequences_two f.sequences_two))
     (payoffs_taken v h.unit h.sum h.mass (record { unit_is = f.unit; sum_is = f.sum; mass_is = f.mass })))))
     (and_from (is_within 0 65536 h.rounds) (is_within 1 65536 h.every && is_within 1 1048576 h.scale) (up_to 65536 h.rounds f.rounds)
     (and_from (is_within 1 65536 h.every) (is_within 1 1048576 h.scale) (to_within 1 65536 h.every f.every) (to_within 1 1048576 h.scale f.scale)))
@@ -142,7 +147,8 @@ all_taken A f P is zero k [] counts all = refl
 all_taken A f P is zero k (x ∷ xs) counts all = absurd (omega (arith, counts))
 all_taken A f P is (suc count) k [] counts all = absurd (omega (arith, counts))
 all_taken A f P is (suc count) k (x ∷ xs) counts all =
-    and_from ((f k).fits x) (each_fits f (k + 1) count xs) (is k x (All-head P x xs all)) (all_taken A f P is count (k + 1) xs (omega (arith, counts)) (All-tail P x xs all))
+    and_from ((f k).fits x) (each_fits f (k + 1) count xs) (is k x (All-head P x xs all))
+    (all_taken A f P is count (k + 1) xs (omega (arith, counts)) (All-tail P x xs all))
 
 -- ---- the trace: each line by its place
 pub record CountsPlaces (A : Type 0) (f : ℕ → Format A) (k count : ℕ) (xs : List A) : Type 0 where
@@ -174,16 +180,19 @@ places_taken A f (suc count) k [] counts each = absurd (omega (arith, counts))
 places_taken A f (suc count) k (x ∷ xs) counts each =
     and_from ((f k).fits x) (each_fits f (k + 1) count xs)
     (ap (λ j. (f j).fits x) (omega arith) ∙ each 0 x (omega arith))
-    (places_taken A f count (k + 1) xs (omega (arith, counts)) (λ i d low. ap (λ j. (f j).fits (get_or xs i d)) (omega arith) ∙ each (suc i) d (omega (arith, low))))
+    (places_taken A f count (k + 1) xs (omega (arith, counts)) (λ i d low. ap (λ j. (f j).fits (get_or xs i d)) (omega arith)
+    ∙ each (suc i) d (omega (arith, low))))
 
 abbrev line_is_within : ℕ → TraceLine → Bool
-line_is_within k l = is_within k k l.round && (is_within 1 k l.low_round && (leb (unsigned_abs l.low) (2 ^ 100) && (is_within 1 k l.high_round && leb (unsigned_abs l.high) (2 ^ 100))))
+line_is_within k l = is_within k k l.round && (is_within 1 k l.low_round && (leb (unsigned_abs l.low) (2 ^ 100)
+    && (is_within 1 k l.high_round && leb (unsigned_abs l.high) (2 ^ 100))))
 
 line_fits : (head : Head) (i k : ℕ) (l : TraceLine) → k ≡ min ((i + 1) * head.every) head.rounds
     → (line_of_round k).fits l ≡ true → LineFits head i l
 line_fits head i k l is fit =
     let a = and_parts (is_within k k l.round) _ fit in
-    let b = and_parts (is_within 1 k l.low_round) (leb (unsigned_abs l.low) (2 ^ 100) && (is_within 1 k l.high_round && leb (unsigned_abs l.high) (2 ^ 100))) a.1 in
+    let b = and_parts (is_within 1 k l.low_round) (leb (unsigned_abs l.low) (2 ^ 100) && (is_within 1 k l.high_round && leb (unsigned_abs l.high) (2 ^ 100)))
+    a.1 in
     let c = and_parts (leb (unsigned_abs l.low) (2 ^ 100)) (is_within 1 k l.high_round && leb (unsigned_abs l.high) (2 ^ 100)) b.1 in
     let d = and_parts (is_within 1 k l.high_round) (leb (unsigned_abs l.high) (2 ^ 100)) c.1 in
     let round = from_to k k l.round a.0 in
@@ -205,8 +214,10 @@ line_taken head i k l is f =
     and_from (is_within k k l.round) _ (to_within k k l.round (omega (arith, same), omega (arith, same)))
     (and_from (is_within 1 k l.low_round) (leb (unsigned_abs l.low) (2 ^ 100) && (is_within 1 k l.high_round && leb (unsigned_abs l.high) (2 ^ 100)))
     (to_within 1 k l.low_round (f.low_round.0, omega (arith, f.low_round.1, same)))
-    (and_from (leb (unsigned_abs l.low) (2 ^ 100)) (is_within 1 k l.high_round && leb (unsigned_abs l.high) (2 ^ 100)) (le-leb (unsigned_abs l.low) (2 ^ 100) f.low)
-    (and_from (is_within 1 k l.high_round) (leb (unsigned_abs l.high) (2 ^ 100)) (to_within 1 k l.high_round (f.high_round.0, omega (arith, f.high_round.1, same))) (le-leb (unsigned_abs l.high) (2 ^ 100) f.high))))
+    (and_from (leb (unsigned_abs l.low) (2 ^ 100)) (is_within 1 k l.high_round && leb (unsigned_abs l.high) (2 ^ 100))
+    (le-leb (unsigned_abs l.low) (2 ^ 100) f.low)
+    (and_from (is_within 1 k l.high_round) (leb (unsigned_abs l.high) (2 ^ 100))
+    (to_within 1 k l.high_round (f.high_round.0, omega (arith, f.high_round.1, same))) (le-leb (unsigned_abs l.high) (2 ^ 100) f.high))))
 
 round_at : (head : Head) (i : ℕ) → round_of_evaluation head (1 + i) ≡ min ((i + 1) * head.every) head.rounds
 round_at head i = ap (λ k. min (k * head.every) head.rounds) (omega arith)
@@ -295,14 +306,20 @@ all_of_both : (rs : List SetReply) → All (λ r. IsPrintable r.value) rs → Al
     → All SetFits rs
 all_of_both [] values choices = All-nil SetFits
 all_of_both (r ∷ rs) values choices =
-    All-cons SetFits r rs (All-head (λ r. IsPrintable r.value) r rs values, All-head (λ r. IsFromTo 1 1024 r.choice) r rs choices) (all_of_both rs (All-tail (λ r. IsPrintable r.value) r rs values) (All-tail (λ r. IsFromTo 1 1024 r.choice) r rs choices))
+    All-cons SetFits r rs (All-head (λ r. IsPrintable r.value) r rs values, All-head (λ r. IsFromTo 1 1024 r.choice) r rs choices)
+    (all_of_both rs (All-tail (λ r. IsPrintable r.value) r rs values) (All-tail (λ r. IsFromTo 1 1024 r.choice) r rs choices))
 
 reply_fits : (player : List ℕ) (sets : ℕ) (reply : Reply) → (reply_lines player sets).fits reply ≡ true
     → ReplyFits sets reply
 reply_fits player sets reply fit =
     let p = and_parts (leb (unsigned_abs reply.total) (2 ^ 100)) (each_fits value_line 1 sets reply.sets) fit in
     let all = each_all SetReply value_line SetFits value_fits sets 1 reply.sets p.1 in
-    record { total = leb-true (unsigned_abs reply.total) (2 ^ 100) p.0; count = all.count_is; values = values_of_all reply.sets all.each; choices = choices_of_all reply.sets all.each }
+    record {
+      total = leb-true (unsigned_abs reply.total) (2 ^ 100) p.0;
+      count = all.count_is;
+      values = values_of_all reply.sets all.each;
+      choices = choices_of_all reply.sets all.each;
+    }
 
 reply_taken : (player : List ℕ) (sets : ℕ) (reply : Reply) → ReplyFits sets reply
     → (reply_lines player sets).fits reply ≡ true
@@ -313,7 +330,8 @@ reply_taken player sets reply f =
 -- ---- the whole
 abbrev behind_trace : Head → PrintedBounds → Bool
 behind_trace head b =
-    (plan_lines (codes "1") head.sets_one).fits b.plan_one && ((reply_lines (codes "2") head.sets_two).fits b.reply_two && ((plan_lines (codes "2") head.sets_two).fits b.plan_two
+    (plan_lines (codes "1") head.sets_one).fits b.plan_one && ((reply_lines (codes "2") head.sets_two).fits b.reply_two
+    && ((plan_lines (codes "2") head.sets_two).fits b.plan_two
     && ((reply_lines (codes "1") head.sets_one).fits b.reply_one && (is_lowest_within (2 ^ 100) b.low && is_lowest_within (2 ^ 100) b.high))))
 
 bounds_fit : (head : Head) (b : PrintedBounds) → 1 ≤ head.rounds → (bounds_lines head).fits b ≡ true → BoundsFit head b
@@ -341,8 +359,10 @@ bounds_taken head b f =
     (and_from ((plan_lines (codes "1") head.sets_one).fits b.plan_one) _ (plan_taken (codes "1") head.sets_one b.plan_one f.plan_one)
     (and_from ((reply_lines (codes "2") head.sets_two).fits b.reply_two) _ (reply_taken (codes "2") head.sets_two b.reply_two f.reply_two)
     (and_from ((plan_lines (codes "2") head.sets_two).fits b.plan_two) _ (plan_taken (codes "2") head.sets_two b.plan_two f.plan_two)
-    (and_from ((reply_lines (codes "1") head.sets_one).fits b.reply_one) (is_lowest_within (2 ^ 100) b.low && is_lowest_within (2 ^ 100) b.high) (reply_taken (codes "1") head.sets_one b.reply_one f.reply_one)
-    (and_from (is_lowest_within (2 ^ 100) b.low) (is_lowest_within (2 ^ 100) b.high) (fraction_taken (2 ^ 100) b.low f.low) (fraction_taken (2 ^ 100) b.high f.high))))))
+    (and_from ((reply_lines (codes "1") head.sets_one).fits b.reply_one) (is_lowest_within (2 ^ 100) b.low && is_lowest_within (2 ^ 100) b.high)
+    (reply_taken (codes "1") head.sets_one b.reply_one f.reply_one)
+    (and_from (is_lowest_within (2 ^ 100) b.low) (is_lowest_within (2 ^ 100) b.high) (fraction_taken (2 ^ 100) b.low f.low)
+    (fraction_taken (2 ^ 100) b.high f.high))))))
 
 below_fits : (head : Head) (t : Bool) (bounds : Option PrintedBounds) → ltb 0 head.rounds ≡ t
     → asked_fits t (bounds_lines head) bounds ≡ true → FitsBelowHead head bounds
@@ -402,7 +422,8 @@ second_taken versions.Two head None second below f =
 second_taken versions.Two head (Some b) None below f = absurd f
 second_taken versions.Two head (Some b) (Some second) below f =
     ap (λ t. asked_fits t second_line (Some second)) (lt-ltb 0 head.rounds below.asked)
-    ∙ and_from (is_lowest_within (2 ^ 100) second.low) (is_lowest_within (2 ^ 100) second.high) (fraction_taken (2 ^ 100) second.low f.0) (fraction_taken (2 ^ 100) second.high f.1)
+    ∙ and_from (is_lowest_within (2 ^ 100) second.low) (is_lowest_within (2 ^ 100) second.high) (fraction_taken (2 ^ 100) second.low f.0)
+    (fraction_taken (2 ^ 100) second.high f.1)
 
 abbrev second_of : VersionedCertificate → Bool
 second_of c = second_taken_by c.version c.certificate.head.rounds c.second
@@ -413,11 +434,16 @@ fits_versioned c fit =
     let p = and_parts ((head_lines_of c.version).fits c.certificate.head) (below c.certificate && (second_of c && true)) fit in
     let q = and_parts (below c.certificate) (second_of c && true) p.1 in
     let fits = from_parts c.version c.certificate p.0 q.0 in
-    record { certificate = fits; second = second_fits c.version c.certificate.head c.certificate.bounds c.second fits.below (and_parts (second_of c) true q.1).0 }
+    record {
+      certificate = fits;
+      second = second_fits c.version c.certificate.head c.certificate.bounds c.second fits.below
+          (and_parts (second_of c) true q.1).0;
+    }
 
 -- a certificate that is within its ranges is one that the formats take
 pub versioned_fit : (c : VersionedCertificate) → VersionedFits c → versioned_certificate.fits c ≡ true
 versioned_fit c f =
-    and_from ((head_lines_of c.version).fits c.certificate.head) (below c.certificate && (second_of c && true)) (head_taken c.version c.certificate.head f.certificate.head)
+    and_from ((head_lines_of c.version).fits c.certificate.head) (below c.certificate && (second_of c && true))
+    (head_taken c.version c.certificate.head f.certificate.head)
     (and_from (below c.certificate) (second_of c && true) (below_taken c.certificate.head c.certificate.bounds f.certificate.below)
     (and_from (second_of c) true (second_taken c.version c.certificate.head c.certificate.bounds c.second f.certificate.below f.second) refl))

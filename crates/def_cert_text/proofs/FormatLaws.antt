@@ -1,6 +1,7 @@
 -- What a format writes it reads again, what it reads was written so, and its faults are the first ones:
 -- a law for each way to make a format.
-use Rattle.std.proofs.Common.{◌≡◌, ℕ, ◌<◌, ◌≤◌, Bool, true, not, List, [], ◌∷◌, ◌++◌, ◌&&◌, length, Result, Ok, Err, refl, sym, ap, ◌∙◌, subst, append_assoc, arith, ◌⊎◌, inl, inr, ⊎_elim}
+use Rattle.std.proofs.Common.{◌≡◌, ℕ, ◌<◌, ◌≤◌, Bool, true, not, List, [], ◌∷◌, ◌++◌, ◌&&◌, length, Result, Ok, Err, refl, sym, ap, ◌∙◌, subst, append_assoc}
+use Rattle.std.proofs.Common.{arith, ◌⊎◌, inl, inr, ⊎_elim}
 use Rattle.std.proofs.lemmas.List.{append-nil, append_cancel_left, length-append}
 use Rattle.std.proofs.lemmas.Bool.{and_parts, and_from, cases_lt}
 use Rattle.def_cert_text.specs.declared.fault.CertFault.{CertFault}
@@ -13,7 +14,8 @@ use Rattle.def_cert_text.proofs.FieldLaws.{bind_ok, ok_is, all_pass}
 pub items_text-append : (xs ys : List TextItem) → items_text (xs ++ ys) ≡ items_text xs ++ items_text ys
 unfolding items_text
 items_text-append [] ys = refl
-items_text-append (x ∷ xs) ys = ap (λ (bs : List ℕ). item_bytes x ++ bs) (items_text-append xs ys) ∙ sym (append_assoc (item_bytes x) (items_text xs) (items_text ys))
+items_text-append (x ∷ xs) ys = ap (λ (bs : List ℕ). item_bytes x ++ bs) (items_text-append xs ys)
+    ∙ sym (append_assoc (item_bytes x) (items_text xs) (items_text ys))
 
 -- a fault of two readings in turn is the first one's, or the first gives a value and the second has this fault
 pub bind_err : {A B : Type 0} (r : Result A CertFault) (k : A → Result B CertFault) (fault : CertFault)
@@ -120,7 +122,8 @@ view_laws A B f g to is laws = record {
       (laws.faults total bytes fault (view_fault A B to (f.read total bytes) fault (sym (is.read total bytes) ∙ e)));
   found = λ total bytes fault h.
       is.read total bytes
-      ∙ ap (λ (r : Result (A × List ℕ) CertFault). r >>= put_to to) (laws.found total bytes fault (first_by B A g f (from_view A B f g to is) (to_view A B f g to is) total bytes fault h));
+      ∙ ap (λ (r : Result (A × List ℕ) CertFault). r >>= put_to to) (laws.found total bytes fault
+      (first_by B A g f (from_view A B f g to is) (to_view A B f g to is) total bytes fault h));
 }
 
 -- ---- one value without items
@@ -189,7 +192,8 @@ pair_only A B f g first second total bytes p left e =
 one_way : (A : Type 0) (f : Format A) → IsFormat A f → (x y : A) (u v : List TextItem) → f.fits x ≡ true → f.fits y ≡ true
     → f.items x ++ u ≡ f.items y ++ v → x ≡ y
 one_way A f laws x y u v fx fy e =
-    let bytes : text_of f x ++ items_text u ≡ text_of f y ++ items_text v = sym (items_text-append (f.items x) u) ∙ ap items_text e ∙ items_text-append (f.items y) v in
+    let bytes : text_of f x ++ items_text u ≡ text_of f y ++ items_text v = sym (items_text-append (f.items x) u) ∙ ap items_text e
+    ∙ items_text-append (f.items y) v in
     let same = ok_is (x, items_text u) (y, items_text v) (sym (laws.again 0 x (items_text u) fx) ∙ ap (f.read 0) bytes ∙ laws.again 0 y (items_text v) fy) in
     ap (λ p. p.0) same
 
@@ -235,7 +239,13 @@ off_first A B f g first items place item needs p =
     needs.2.3 ∙ append_assoc items (t ∷ []) needs.2.1 ∙ ap (λ (ts : List TextItem). ts ++ t ∷ needs.2.1) r.1 ∙ append_assoc (f.items x) r.0 (t ∷ needs.2.1) in
     let same : z ≡ x = one_way A f first z x [] (r.0 ++ (t ∷ needs.2.1)) needs.2.2 fits.0 (append-nil (f.items z) ∙ w) in
     let lengths = ap length w in
-    absurd (omega (arith, ap (λ (a : A). length (f.items a)) same, lengths, length-append (f.items x) (r.0 ++ (t ∷ needs.2.1)), length-append r.0 (t ∷ needs.2.1))))
+    absurd (omega (
+      arith,
+      ap (λ (a : A). length (f.items a)) same,
+      lengths,
+      length-append (f.items x) (r.0 ++ (t ∷ needs.2.1)),
+      length-append r.0 (t ∷ needs.2.1),
+    )))
     long
 
 -- what goes on behind a value of the first
@@ -248,7 +258,8 @@ at_same : (A B : Type 0) (f : Format A) (g : A → Format B) (x x' : A) → x �
     → (g x').fits y ≡ true → f.items x' ++ (g x').items y ≡ f.items x ++ whole
     → ((g x).fits y ≡ true) × ((g x).items y ≡ whole)
 at_same A B f g x x' same =
-    subst (λ (z : A). (y : B) (whole : List TextItem) → (g z).fits y ≡ true → f.items z ++ (g z).items y ≡ f.items x ++ whole → ((g x).fits y ≡ true) × ((g x).items y ≡ whole)) same
+    subst (λ (z : A). (y : B) (whole : List TextItem) → (g z).fits y ≡ true → f.items z ++ (g z).items y ≡ f.items x ++ whole → ((g x).fits y ≡ true)
+    × ((g x).items y ≡ whole)) same
     (λ y whole fits e. (fits, append_cancel_left (f.items x) ((g x).items y) whole e))
 
 off_second : (A B : Type 0) (f : Format A) (g : A → Format B) → IsFormat A f → (x : A) → f.fits x ≡ true
@@ -275,7 +286,8 @@ lift_first A B f g first second total bytes fault h = record {
   parts = h.parts;
   whole_before = h.whole_before;
   needed = (h.needed.0, h.needed.1, on_first A B f g second (h.items ++ h.needed.0 ∷ []) h.needed.2);
-  stop = stop_by A (A × B) f (and_then f g) h.items h.items h.place total h.left fault (off_first A B f g first h.items h.place (item_there h.place h.left) h.needed) h.stop;
+  stop = stop_by A (A × B) f (and_then f g) h.items h.items h.place total h.left fault
+      (off_first A B f g first h.items h.place (item_there h.place h.left) h.needed) h.stop;
 }
 
 lift_second : (A B : Type 0) (f : Format A) (g : A → Format B) → IsFormat A f → (x : A) → f.fits x ≡ true
@@ -283,7 +295,8 @@ lift_second : (A B : Type 0) (f : Format A) (g : A → Format B) → IsFormat A 
     → HasFirstFault (g x) total mid fault → HasFirstFault (and_then f g) total bytes fault
 lift_second A B f g first x fits total bytes mid fault is h =
     let t = h.needed in
-    let behind : (item : TextItem) → f.items x ++ (h.items ++ item ∷ []) ≡ (f.items x ++ h.items) ++ item ∷ [] = λ item. sym (append_assoc (f.items x) h.items (item ∷ [])) in
+    let behind : (item : TextItem) → f.items x ++ (h.items ++ item ∷ []) ≡ (f.items x ++ h.items) ++ item
+    ∷ [] = λ item. sym (append_assoc (f.items x) h.items (item ∷ [])) in
     record {
       items = f.items x ++ h.items;
       place = h.place;
@@ -293,7 +306,8 @@ lift_second A B f g first x fits total bytes mid fault is h =
       whole_before = h.whole_before;
       needed = (t.0, t.1, subst (λ (ts : List TextItem). CanGoOn (and_then f g) ts) (behind t.0) (on_second A B f g x fits (h.items ++ t.0 ∷ []) t.2));
       stop = stop_by B (A × B) (g x) (and_then f g) h.items (f.items x ++ h.items) h.place total h.left fault
-          (λ p. off_second A B f g first x fits (h.items ++ item_there h.place h.left ∷ []) (subst (λ (ts : List TextItem). CanGoOn (and_then f g) ts) (sym (behind (item_there h.place h.left))) p)) h.stop;
+          (λ p. off_second A B f g first x fits (h.items ++ item_there h.place h.left ∷ [])
+          (subst (λ (ts : List TextItem). CanGoOn (and_then f g) ts) (sym (behind (item_there h.place h.left))) p)) h.stop;
     }
 
 pair_faults : (A B : Type 0) (f : Format A) (g : A → Format B) → IsFormat A f
@@ -325,7 +339,8 @@ found_first A B f g first second total bytes fault h needs =
       parts = h.parts;
       whole_before = h.whole_before;
       needed = needs;
-      stop = stop_by (A × B) A (and_then f g) f h.items h.items h.place total h.left fault (on_first A B f g second (h.items ++ item_there h.place h.left ∷ [])) h.stop;
+      stop = stop_by (A × B) A (and_then f g) f h.items h.items h.place total h.left fault (on_first A B f g second (h.items ++ item_there h.place h.left ∷ []))
+          h.stop;
     } in
     ap (λ (r : Result (A × List ℕ) CertFault). r >>= second_of g total) (first.found total bytes fault low)
 
@@ -353,7 +368,8 @@ found_second A B f g first second x y fx fy total bytes fault h items more is e 
           (stop_at (A × B) (and_then f g) h.items (f.items x ++ items) h.place total h.left fault is h.stop);
     } in
     let whole : bytes ≡ text_of f x ++ mid =
-    h.parts ∙ ap (λ (ts : List TextItem). items_text ts ++ h.left) is ∙ ap (λ (b : List ℕ). b ++ h.left) (items_text-append (f.items x) items) ∙ append_assoc (text_of f x) (items_text items) h.left in
+    h.parts ∙ ap (λ (ts : List TextItem). items_text ts ++ h.left) is ∙ ap (λ (b : List ℕ). b ++ h.left) (items_text-append (f.items x) items)
+    ∙ append_assoc (text_of f x) (items_text items) h.left in
     ap (λ (b : List ℕ). f.read total b >>= second_of g total) whole
     ∙ ap (λ (r : Result (A × List ℕ) CertFault). r >>= second_of g total) (first.again total x mid fx)
     ∙ ap (λ (r : Result (B × List ℕ) CertFault). r >>= λ z. Ok ((x, z.0), z.1)) ((second x fx).found total mid fault low)
@@ -376,8 +392,10 @@ pair_found A B f g first second total bytes fault h =
     (λ le.
     let r = begins h.items (f.items x) (item ∷ p.1) ((g x).items y) (sym (p.3 ∙ append_assoc h.items (item ∷ []) p.1)) le in
     let e : f.items x ++ (g x).items y ≡ f.items x ++ ((r.0 ++ item ∷ []) ++ p.1) =
-    p.3 ∙ ap (λ (ts : List TextItem). (ts ++ item ∷ []) ++ p.1) r.1 ∙ ap (λ (ts : List TextItem). ts ++ p.1) (append_assoc (f.items x) r.0 (item ∷ [])) ∙ append_assoc (f.items x) (r.0 ++ item ∷ []) p.1 in
-    found_second A B f g first second x y fits.0 fits.1 total bytes fault h r.0 p.1 r.1 (append_cancel_left (f.items x) ((g x).items y) ((r.0 ++ item ∷ []) ++ p.1) e))
+    p.3 ∙ ap (λ (ts : List TextItem). (ts ++ item ∷ []) ++ p.1) r.1 ∙ ap (λ (ts : List TextItem). ts ++ p.1) (append_assoc (f.items x) r.0 (item ∷ []))
+    ∙ append_assoc (f.items x) (r.0 ++ item ∷ []) p.1 in
+    found_second A B f g first second x y fits.0 fits.1 total bytes fault h r.0 p.1 r.1
+    (append_cancel_left (f.items x) ((g x).items y) ((r.0 ++ item ∷ []) ++ p.1) e))
     long
 
 -- where a format keeps the laws, and so does the next one for each value that it takes, the two in turn keep them

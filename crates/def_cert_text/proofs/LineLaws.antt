@@ -16,7 +16,11 @@ use Rattle.def_cert_text.specs.Versions.{PrintedBracket, VersionedCertificate, h
 use Rattle.def_cert_text.specs.declared.version.TextVersion.{TextVersion}
 use Rattle.def_cert_text.specs.declared.version.TextVersion.TheVariants as versions
 use Rattle.def_cert_text.specs.Formats.{Format, whole_field, fraction_field, and_then, where_asked}
-use Rattle.def_cert_text.specs.CertText.{after_word, after_set_number, after_player, NumbersOfGame, size_line, sets_line, sequences_line, unit_line, unit_alone_line, mass_line, sum_line, PayoffNumbers, payoff_lines, game_lines_of, asked_line, head_lines_of, line_of_round, round_of_evaluation, evaluation_count, trace_lines, weights_line, plan_lines, value_line, reply_lines, bracket_line, PartsOfBounds, bounds_lines, end_line, lines_of, version_text, version_in, version_field, second_line, last_lines, PartsOfVersioned, versioned_certificate}
+use Rattle.def_cert_text.specs.CertText.{after_word, after_set_number, after_player, NumbersOfGame, size_line, sets_line, sequences_line, unit_line}
+use Rattle.def_cert_text.specs.CertText.{unit_alone_line, mass_line, sum_line, PayoffNumbers, payoff_lines, game_lines_of, asked_line, head_lines_of}
+use Rattle.def_cert_text.specs.CertText.{line_of_round, round_of_evaluation, evaluation_count, trace_lines, weights_line, plan_lines, value_line, reply_lines}
+use Rattle.def_cert_text.specs.CertText.{bracket_line, PartsOfBounds, bounds_lines, end_line, lines_of, version_text, version_in, version_field, second_line}
+use Rattle.def_cert_text.specs.CertText.{last_lines, PartsOfVersioned, versioned_certificate}
 use Rattle.def_cert_text.proofs.FieldLaws.{all_pass, decimal_inside}
 use Rattle.def_cert_text.proofs.FormatLaws.{IsFormat, pair_laws}
 use Rattle.def_cert_text.proofs.FieldFormatLaws.{one_field_laws, whole_laws, integer_laws, fraction_laws, fixed_laws}
@@ -48,9 +52,12 @@ payoff_laws versions.Two =
 
 pub game_laws : (v : TextVersion) → IsFormat NumbersOfGame (game_lines_of v)
 game_laws v =
-    two_laws _ _ size_line _ (word_laws _ (codes "nodes") _ refl (two_laws _ _ _ _ (entries_laws 1 space (omega arith) refl) (word_laws _ (codes "leaves") _ refl (entries_laws 1 feed (omega arith) refl))))
-    (two_laws _ _ sets_line _ (word_laws _ (codes "sets") _ refl (two_laws _ _ _ _ (entries_laws 0 space (omega arith) refl) (entries_laws 0 feed (omega arith) refl)))
-    (two_laws _ _ sequences_line (payoff_lines v) (word_laws _ (codes "sequences") _ refl (two_laws _ _ _ _ (entries_laws 1 space (omega arith) refl) (entries_laws 1 feed (omega arith) refl)))
+    two_laws _ _ size_line _ (word_laws _ (codes "nodes") _ refl (two_laws _ _ _ _ (entries_laws 1 space (omega arith) refl)
+    (word_laws _ (codes "leaves") _ refl (entries_laws 1 feed (omega arith) refl))))
+    (two_laws _ _ sets_line _ (word_laws _ (codes "sets") _ refl (two_laws _ _ _ _ (entries_laws 0 space (omega arith) refl)
+    (entries_laws 0 feed (omega arith) refl)))
+    (two_laws _ _ sequences_line (payoff_lines v) (word_laws _ (codes "sequences") _ refl
+    (two_laws _ _ _ _ (entries_laws 1 space (omega arith) refl) (entries_laws 1 feed (omega arith) refl)))
     (payoff_laws v)))
 
 asked_line_laws : IsFormat (ℕ × (ℕ × ℕ)) asked_line
@@ -109,7 +116,8 @@ plan_laws player sets h small =
 value_laws : (set : ℕ) → set ≤ 2 ^ 20 → IsFormat SetReply (value_line set)
 value_laws set small =
     seen_laws _ SetReply _ _ _ (λ p. refl) (λ reply. refl)
-    (set_laws _ (codes "value") set _ refl small (two_laws _ _ _ _ (integer_laws (2 ^ 100) space (omega arith) refl) (whole_laws 1 1024 feed (omega arith) (omega arith) refl)))
+    (set_laws _ (codes "value") set _ refl small (two_laws _ _ _ _ (integer_laws (2 ^ 100) space (omega arith) refl)
+    (whole_laws 1 1024 feed (omega arith) (omega arith) refl)))
 
 reply_laws : (player : List ℕ) (sets : ℕ) → all_pass is_field_byte player ≡ true → sets ≤ 2 ^ 20
     → IsFormat Reply (reply_lines player sets)
@@ -190,11 +198,13 @@ second_laws = seen_laws (Fraction × Fraction) PrintedBracket _ _ _ (λ p. refl)
 last_laws : (v : TextVersion) (head : Head) → IsFormat (Option PrintedBracket × Unit {0}) (last_lines v head)
 last_laws v head =
     let asked : Bool = has_second v && ltb 0 head.rounds in
-    two_laws (Option PrintedBracket) (Unit {0}) (where_asked asked second_line) end_line (asked_laws PrintedBracket asked second_line (λ h. second_laws)) end_laws
+    two_laws (Option PrintedBracket) (Unit {0}) (where_asked asked second_line) end_line (asked_laws PrintedBracket asked second_line (λ h. second_laws))
+    end_laws
 
 -- the format of a whole certificate keeps the laws of a format
 pub versioned_laws : IsFormat VersionedCertificate versioned_certificate
 versioned_laws =
     seen_laws PartsOfVersioned VersionedCertificate _ _ _ (λ p. refl) (λ c. refl)
-    (word_laws _ (codes "XGCERT") _ refl (pair_laws TextVersion (Head × (Option PrintedBounds × (Option PrintedBracket × Unit {0}))) version_field (λ v. lines_of v (last_lines v)) version_laws
+    (word_laws _ (codes "XGCERT") _ refl (pair_laws TextVersion (Head × (Option PrintedBounds × (Option PrintedBracket × Unit {0}))) version_field
+    (λ v. lines_of v (last_lines v)) version_laws
     (λ v fit. lines_laws (Option PrintedBracket × Unit {0}) v (last_lines v) (last_laws v))))

@@ -1,5 +1,6 @@
 -- A text is of another version exactly where its second field is neither `1` nor `2`.
-use Rattle.std.proofs.Common.{◌≡◌, ◌≢◌, ℕ, zero, suc, ◌+◌, ◌-◌, Bool, true, false, cond, eqb, List, [], ◌∷◌, ◌++◌, length, ℤ, Option, Some, None, Result, Ok, Err, refl, sym, ap, ◌∙◌, ⊎_elim}
+use Rattle.std.proofs.Common.{◌≡◌, ◌≢◌, ℕ, zero, suc, ◌+◌, ◌-◌, Bool, true, false, cond, eqb, List, [], ◌∷◌, ◌++◌, length, ℤ, Option, Some, None, Result, Ok}
+use Rattle.std.proofs.Common.{Err, refl, sym, ap, ◌∙◌, ⊎_elim}
 use Rattle.std.specs.Prelude.{codes, ◌&&◌, not, nat_lt}
 use Rattle.std.specs.Cmp.Lexicographic.{pointwise, same_text}
 use Rattle.std.specs.Fmt.{decimal, signed_decimal}
@@ -14,13 +15,20 @@ use Rattle.def_cert_verdict.specs.Certificate.{PrintedBounds, PrintedPlan}
 use Rattle.def_cert_verdict.specs.Ranges.{most_printed}
 use Rattle.def_cert_text.specs.declared.fault.CertFault.{CertFault}
 use Rattle.def_cert_text.specs.declared.fault.CertFault.TheVariants.{CertSyntax, CertNumber, CertVersion, CertShort}
-use Rattle.def_cert_text.specs.Fields.{◌>>=◌, space, feed, FieldKind, fixed_word, number, items_text, next_field, behind_field, is_empty, field_fault, if_fit, read_field}
+use Rattle.def_cert_text.specs.Fields.{◌>>=◌, space, feed, FieldKind, fixed_word, number, items_text, next_field, behind_field, is_empty, field_fault, if_fit}
+use Rattle.def_cert_text.specs.Fields.{read_field}
 use Rattle.def_cert_text.specs.Numbers.{whole_in, integer_in, fraction_in, nonzero_in}
-use Rattle.def_cert_text.specs.Formats.{Format, one_field, whole_field, integer_field, is_lowest_within, fraction_field, same_bytes, fixed_field, after_fixed, and_then, seen_as, read_each, each_from, where_asked, with_end_if_fit, read_number, read_last, read_row, row_of_numbers}
+use Rattle.def_cert_text.specs.Formats.{Format, one_field, whole_field, integer_field, is_lowest_within, fraction_field, same_bytes, fixed_field, after_fixed}
+use Rattle.def_cert_text.specs.Formats.{and_then, seen_as, read_each, each_from, where_asked, with_end_if_fit, read_number, read_last, read_row, row_of_numbers}
 use Rattle.def_cert_text.specs.Versions.{PrintedBracket, VersionedCertificate, has_second}
 use Rattle.def_cert_text.specs.declared.version.TextVersion.{TextVersion}
 use Rattle.def_cert_text.specs.declared.version.TextVersion.TheVariants as versions
-use Rattle.def_cert_text.specs.CertText.{after_set_number, after_player, size_line, sets_line, sequences_line, sum_field, unit_and_sum, unit_line, unit_alone_line, mass_line, sum_line, PayoffNumbers, parts_of_payoffs, payoffs_of_parts, payoff_lines, game_lines_of, asked_line, parts_of_head, head_of_parts, head_lines_of, parts_of_trace_line, trace_line_of_parts, line_of_round, round_of_evaluation, evaluation_count, trace_lines, weights_line, plan_lines, value_line, reply_lines, bracket_line, PartsOfBounds, parts_of_bounds, bounds_of_parts, bounds_lines, end_line, lines_of, version_in, version_field, second_line, last_lines, PartsOfVersioned, versioned_of_parts, versioned_certificate, if_at_end, versioned_in}
+use Rattle.def_cert_text.specs.CertText.{after_set_number, after_player, size_line, sets_line, sequences_line, sum_field, unit_and_sum, unit_line}
+use Rattle.def_cert_text.specs.CertText.{unit_alone_line, mass_line, sum_line, PayoffNumbers, parts_of_payoffs, payoffs_of_parts, payoff_lines, game_lines_of}
+use Rattle.def_cert_text.specs.CertText.{asked_line, parts_of_head, head_of_parts, head_lines_of, parts_of_trace_line, trace_line_of_parts, line_of_round}
+use Rattle.def_cert_text.specs.CertText.{round_of_evaluation, evaluation_count, trace_lines, weights_line, plan_lines, value_line, reply_lines, bracket_line}
+use Rattle.def_cert_text.specs.CertText.{PartsOfBounds, parts_of_bounds, bounds_of_parts, bounds_lines, end_line, lines_of, version_in, version_field}
+use Rattle.def_cert_text.specs.CertText.{second_line, last_lines, PartsOfVersioned, versioned_of_parts, versioned_certificate, if_at_end, versioned_in}
 use Rattle.def_cert_text.specs.Laws.{NamesNoVersion, OtherVersionsAreRefused}
 use Rattle.def_cert_text.proofs.FormatLaws.{bind_err}
 use Rattle.def_cert_text.proofs.FieldFormatLaws.{fixed_laws}
@@ -50,7 +58,8 @@ read_never A kind test sep is total bytes e = by (test (next_field bytes)) (behi
     separated x b more false e = cc
 
     by : (o : Option A) (r : List ℕ)
-        → ◌≡◌ {A = Result (A × List ℕ) CertFault} (cond (is_empty r) (Err CertShort) (if_fit (field_fault kind (total - length bytes)) sep total o r)) (Err CertVersion) → ⊥
+        → ◌≡◌ {A = Result (A × List ℕ) CertFault} (cond (is_empty r) (Err CertShort) (if_fit (field_fault kind (total - length bytes)) sep total o r))
+        (Err CertVersion) → ⊥
     by o [] e = cc
     by None (b ∷ more) e = let same : field_fault kind (total - length bytes) ≡ CertVersion = cc in is.other (total - length bytes) same
     by (Some x) (b ∷ more) e = separated x b more (eqb b sep) e
@@ -114,10 +123,12 @@ row_never most zero total bytes e =
     (bind_err ((whole_field 0 most feed).read total bytes) (λ n. Ok (n.0 ∷ [], n.1)) CertVersion e)
 row_never most (suc more) total bytes e =
     ⊎_elim (λ here. number_never 0 most total bytes here) (λ later. next later.0 later.0.0.1 (λ here. row_never most more total later.0.1 here) later.2)
-    (bind_err (read_number 0 most total bytes) (λ n. cond n.0.1 (Ok (n.0.0 ∷ [], n.1)) (read_row most more total n.1 >>= λ ns. Ok (n.0.0 ∷ ns.0, ns.1))) CertVersion e)
+    (bind_err (read_number 0 most total bytes) (λ n. cond n.0.1 (Ok (n.0.0 ∷ [], n.1)) (read_row most more total n.1 >>= λ ns. Ok (n.0.0 ∷ ns.0, ns.1)))
+    CertVersion e)
   where
     next : (n : (ℕ × Bool) × List ℕ) (last : Bool) → (read_row most more total n.1 ≡ Err CertVersion → ⊥)
-        → ◌≡◌ {A = Result (List ℕ × List ℕ) CertFault} (cond last (Ok (n.0.0 ∷ [], n.1)) (read_row most more total n.1 >>= λ ns. Ok (n.0.0 ∷ ns.0, ns.1))) (Err CertVersion) → ⊥
+        → ◌≡◌ {A = Result (List ℕ × List ℕ) CertFault} (cond last (Ok (n.0.0 ∷ [], n.1)) (read_row most more total n.1 >>= λ ns. Ok (n.0.0 ∷ ns.0, ns.1)))
+        (Err CertVersion) → ⊥
     next n true rest e = cc
     next n false rest e =
         ⊎_elim rest (λ end. (let bad = end.2 in cc)) (bind_err (read_row most more total n.1) (λ ns. Ok (n.0.0 ∷ ns.0, ns.1)) CertVersion e)
@@ -139,19 +150,23 @@ fraction_never : (limit sep : ℕ) → NeverVersion (fraction_field limit sep)
 fraction_never limit sep = field_never Fraction number (is_lowest_within limit) fraction_text (fraction_in limit) sep a_number
 
 sum_never : NeverVersion sum_field
-sum_never = word_never _ (codes "sum") _ (field_never Fraction number (λ f. is_lowest_within most f && not (is_zero f)) fraction_text (nonzero_in most) feed a_number)
+sum_never = word_never _ (codes "sum") _ (field_never Fraction number (λ f. is_lowest_within most f && not (is_zero f)) fraction_text (nonzero_in most) feed
+    a_number)
 
 unit_never : NeverVersion unit_and_sum
 unfolding NeverVersion
 unit_never total bytes e =
     ⊎_elim (λ here. number_never 1 most total bytes here) (λ later. next later.0 later.0.0.1 later.2)
-    (bind_err (read_number 1 most total bytes) (λ n. cond n.0.1 (Ok ((n.0.0, zero_fraction), n.1)) (sum_field.read total n.1 >>= λ sum. Ok ((n.0.0, sum.0), sum.1))) CertVersion e)
+    (bind_err (read_number 1 most total bytes) (λ n. cond n.0.1 (Ok ((n.0.0, zero_fraction), n.1))
+    (sum_field.read total n.1 >>= λ sum. Ok ((n.0.0, sum.0), sum.1))) CertVersion e)
   where
     next : (n : (ℕ × Bool) × List ℕ) (last : Bool)
-        → ◌≡◌ {A = Result ((ℕ × Fraction) × List ℕ) CertFault} (cond last (Ok ((n.0.0, zero_fraction), n.1)) (sum_field.read total n.1 >>= λ sum. Ok ((n.0.0, sum.0), sum.1))) (Err CertVersion) → ⊥
+        → ◌≡◌ {A = Result ((ℕ × Fraction) × List ℕ) CertFault} (cond last (Ok ((n.0.0, zero_fraction), n.1))
+        (sum_field.read total n.1 >>= λ sum. Ok ((n.0.0, sum.0), sum.1))) (Err CertVersion) → ⊥
     next n true e = cc
     next n false e =
-        ⊎_elim (λ here. sum_never total n.1 here) (λ end. (let bad = end.2 in cc)) (bind_err (sum_field.read total n.1) (λ sum. Ok ((n.0.0, sum.0), sum.1)) CertVersion e)
+        ⊎_elim (λ here. sum_never total n.1 here) (λ end. (let bad = end.2 in cc))
+        (bind_err (sum_field.read total n.1) (λ sum. Ok ((n.0.0, sum.0), sum.1)) CertVersion e)
 
 mass_never : NeverVersion mass_line
 mass_never = word_never _ (codes "mass") _ (whole_never 0 most_mass feed)
@@ -159,11 +174,13 @@ mass_never = word_never _ (codes "mass") _ (whole_never 0 most_mass feed)
 payoff_never : (v : TextVersion) → NeverVersion (payoff_lines v)
 payoff_never versions.One = two_never _ _ unit_line mass_line (word_never _ (codes "unit") _ unit_never) mass_never
 payoff_never versions.Two =
-    seen_never (ℕ × (ℕ × Fraction)) PayoffNumbers payoffs_of_parts parts_of_payoffs _ (two_never _ _ unit_alone_line _ (word_never _ (codes "unit") _ (whole_never 1 most feed))
+    seen_never (ℕ × (ℕ × Fraction)) PayoffNumbers payoffs_of_parts parts_of_payoffs _
+    (two_never _ _ unit_alone_line _ (word_never _ (codes "unit") _ (whole_never 1 most feed))
     (two_never _ _ mass_line sum_line mass_never (word_never _ (codes "sum") _ (fraction_never most feed))))
 
 size_never : NeverVersion size_line
-size_never = word_never _ (codes "nodes") _ (two_never _ _ _ _ (whole_never 1 most_nodes space) (word_never _ (codes "leaves") _ (whole_never 1 most_nodes feed)))
+size_never = word_never _ (codes "nodes") _ (two_never _ _ _ _ (whole_never 1 most_nodes space)
+    (word_never _ (codes "leaves") _ (whole_never 1 most_nodes feed)))
 
 sets_never : NeverVersion sets_line
 sets_never = word_never _ (codes "sets") _ (two_never _ _ _ _ (whole_never 0 most_nodes space) (whole_never 0 most_nodes feed))
@@ -172,7 +189,8 @@ sequences_never : NeverVersion sequences_line
 sequences_never = word_never _ (codes "sequences") _ (two_never _ _ _ _ (whole_never 1 most_nodes space) (whole_never 1 most_nodes feed))
 
 game_never : (v : TextVersion) → NeverVersion (game_lines_of v)
-game_never v = two_never _ _ size_line _ size_never (two_never _ _ sets_line _ sets_never (two_never _ _ sequences_line (payoff_lines v) sequences_never (payoff_never v)))
+game_never v = two_never _ _ size_line _ size_never (two_never _ _ sets_line _ sets_never
+    (two_never _ _ sequences_line (payoff_lines v) sequences_never (payoff_never v)))
 
 asked_line_never : NeverVersion asked_line
 asked_line_never =
@@ -184,11 +202,13 @@ head_never v = seen_never _ Head head_of_parts parts_of_head _ (two_never _ _ (g
 
 round_line_never : (k : ℕ) → NeverVersion (line_of_round k)
 round_line_never k =
-    seen_never (ℕ × (ℕ × (ℤ × (ℕ × ℤ)))) TraceLine trace_line_of_parts parts_of_trace_line _ (word_never _ (codes "trace") _ (two_never _ _ _ _ (whole_never k k space) (two_never _ _ _ _ (whole_never 1 k space)
+    seen_never (ℕ × (ℕ × (ℤ × (ℕ × ℤ)))) TraceLine trace_line_of_parts parts_of_trace_line _
+    (word_never _ (codes "trace") _ (two_never _ _ _ _ (whole_never k k space) (two_never _ _ _ _ (whole_never 1 k space)
     (two_never _ _ _ _ (integer_never most_printed space) (two_never _ _ _ _ (whole_never 1 k space) (integer_never most_printed feed))))))
 
 trace_never : (head : Head) → NeverVersion (trace_lines head)
-trace_never head = each_never TraceLine (λ k. line_of_round (round_of_evaluation head k)) (evaluation_count head) 1 (λ k. round_line_never (round_of_evaluation head k))
+trace_never head = each_never TraceLine (λ k. line_of_round (round_of_evaluation head k)) (evaluation_count head) 1
+    (λ k. round_line_never (round_of_evaluation head k))
 
 set_never : (A : Type 0) (wanted : List ℕ) (set : ℕ) (f : Format A) → NeverVersion f → NeverVersion (after_set_number wanted set f)
 set_never A wanted set f never = word_never A wanted _ (after_never A number (decimal set) space f a_number never)
@@ -219,9 +239,11 @@ ends_never = two_never _ _ _ _ (fraction_never most_printed space) (fraction_nev
 bounds_never : (head : Head) → NeverVersion (bounds_lines head)
 bounds_never head =
     seen_never PartsOfBounds PrintedBounds bounds_of_parts parts_of_bounds _ (two_never _ _ (trace_lines head) _ (trace_never head)
-    (two_never _ _ (plan_lines (codes "1") head.sets_one) _ (plan_never (codes "1") head.sets_one) (two_never _ _ (reply_lines (codes "2") head.sets_two) _ (reply_never (codes "2") head.sets_two)
+    (two_never _ _ (plan_lines (codes "1") head.sets_one) _ (plan_never (codes "1") head.sets_one)
+    (two_never _ _ (reply_lines (codes "2") head.sets_two) _ (reply_never (codes "2") head.sets_two)
     (two_never _ _ (plan_lines (codes "2") head.sets_two) _ (plan_never (codes "2") head.sets_two)
-    (two_never _ _ (reply_lines (codes "1") head.sets_one) bracket_line (reply_never (codes "1") head.sets_one) (word_never _ (codes "bracket") _ ends_never))))))
+    (two_never _ _ (reply_lines (codes "1") head.sets_one) bracket_line (reply_never (codes "1") head.sets_one)
+    (word_never _ (codes "bracket") _ ends_never))))))
 
 second_never : NeverVersion second_line
 second_never = seen_never (Fraction × Fraction) PrintedBracket (λ p. record { low = p.0; high = p.1 }) (λ second. (second.low, second.high)) _

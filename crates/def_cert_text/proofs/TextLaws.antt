@@ -100,7 +100,8 @@ no_end A total x (b ∷ more) some = refl
 
 stopped : (A : Type 0) (f : Format A) (Fits : A → Type 0) → IsWithRanges A f Fits → (bytes : List ℕ) (fault : CertFault)
     → FirstFaultOf f Fits bytes fault → read_to_end f bytes ≡ Err fault
-stopped A f Fits is bytes fault (within h) = ap (λ (r : Result (A × List ℕ) CertFault). r >>= end_of (length bytes)) (is.laws.found (length bytes) bytes fault h)
+stopped A f Fits is bytes fault (within h) = ap (λ (r : Result (A × List ℕ) CertFault). r >>= end_of (length bytes))
+    (is.laws.found (length bytes) bytes fault h)
 stopped A f Fits is bytes fault (behind h) =
     let total = length bytes in
     let x = h.value in

@@ -5,7 +5,8 @@ use Rattle.def_reply.specs.Outcome.{Head}
 use Rattle.def_cert_text.specs.Fields.{feed, fixed_word, TextItem, field, separator, items_text}
 use Rattle.def_cert_text.specs.declared.version.TextVersion.{TextVersion}
 use Rattle.def_cert_text.specs.declared.version.TextVersion.TheVariants as versions
-use Rattle.def_cert_text.specs.CertText.{numbers_of_game, game_lines_of, asked_line, trace_lines, plan_lines, reply_lines, bracket_line, bounds_lines, second_line, head_text_of, first_text_of, asked_text, bounds_text, second_text, last_text, versioned_text}
+use Rattle.def_cert_text.specs.CertText.{numbers_of_game, game_lines_of, asked_line, trace_lines, plan_lines, reply_lines, bracket_line, bounds_lines}
+use Rattle.def_cert_text.specs.CertText.{second_line, head_text_of, first_text_of, asked_text, bounds_text, second_text, last_text, versioned_text}
 use Rattle.def_cert_text.specs.Laws.{versioned_head, VersionedTextIsItsLines}
 use Rattle.def_cert_text.proofs.FormatLaws.{items_text-append}
 
@@ -41,8 +42,10 @@ versioned_lines = record {
       behind_head versions.One head (first_text_of versions.One) ((bounds_lines head).items b ++ end_items) (bounds_text head b ++ last_text)
       (items_text-append ((bounds_lines head).items b) end_items);
   with_bounds = λ head b second.
-      behind_head versions.Two head (first_text_of versions.Two) ((bounds_lines head).items b ++ (second_line.items second ++ end_items)) (bounds_text head b ++ (second_text second ++ last_text))
-      (many_then ((bounds_lines head).items b) (second_line.items second ++ end_items) (second_text second ++ last_text) (items_text-append (second_line.items second) end_items));
+      behind_head versions.Two head (first_text_of versions.Two) ((bounds_lines head).items b ++ (second_line.items second ++ end_items))
+      (bounds_text head b ++ (second_text second ++ last_text))
+      (many_then ((bounds_lines head).items b) (second_line.items second ++ end_items) (second_text second ++ last_text)
+      (items_text-append (second_line.items second) end_items));
   bounds = λ head b.
       many_then ((trace_lines head).items b.trace) _ _
       (many_then ((plan_lines (codes "1") head.sets_one).items b.plan_one) _ _
@@ -51,6 +54,7 @@ versioned_lines = record {
       (many_then ((reply_lines (codes "1") head.sets_one).items b.reply_one) (bracket_line.items (b.low, b.high)) _ refl))));
 }
   where
-    behind_first : (v : TextVersion) (head : Head) → versioned_text (versioned_head v head) ≡ first_text_of v ++ (head_text_of v head ++ (asked_text head ++ last_text))
+    behind_first : (v : TextVersion) (head : Head) → versioned_text (versioned_head v head) ≡ first_text_of v
+        ++ (head_text_of v head ++ (asked_text head ++ last_text))
     behind_first versions.One head = behind_head versions.One head (first_text_of versions.One) end_items last_text refl
     behind_first versions.Two head = behind_head versions.Two head (first_text_of versions.Two) end_items last_text refl

@@ -1,5 +1,6 @@
 -- The laws of the unit and the sum behind it.
-use Rattle.std.proofs.Common.{◌≡◌, ℕ, ◌&&◌, Bool, true, false, cond, List, [], ◌∷◌, Option, Some, None, Result, Ok, Err, unsigned_abs, refl, sym, ap, ◌∙◌, arith}
+use Rattle.std.proofs.Common.{◌≡◌, ℕ, ◌&&◌, Bool, true, false, cond, List, [], ◌∷◌, Option, Some, None, Result, Ok, Err, unsigned_abs, refl, sym, ap, ◌∙◌}
+use Rattle.std.proofs.Common.{arith}
 use Rattle.std.specs.Prelude.{not, codes, unwrap_or, ℤ, pos, negsuc}
 use Rattle.std.specs.Fmt.{decimal}
 use Rattle.std.proofs.lemmas.Bool.{and_parts, and_from, eqb-true, not-true}
@@ -104,4 +105,5 @@ unit_laws =
       read = λ total bytes. sum_read total (read_number 1 most total bytes);
     })
     (pair_laws (ℕ × Bool) (Option Fraction) (number_with_end 1 most) behind_unit (number_laws 1 most (omega arith) (omega arith))
-    (λ p fit. asked_laws Fraction (not p.1) sum_field (λ _. after_laws Fraction fixed_word (codes "sum") space _ refl refl (nonzero_laws most feed (omega arith) (omega arith) refl))))
+    (λ p fit. asked_laws Fraction (not p.1) sum_field (λ _. after_laws Fraction fixed_word (codes "sum") space _ refl refl
+    (nonzero_laws most feed (omega arith) (omega arith) refl))))

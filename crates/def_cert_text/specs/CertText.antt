@@ -1,5 +1,6 @@
 -- The text of a certificate in both versions: its lines as formats, and what reading gives.
-use Rattle.std.specs.Prelude.{ℕ, true, ◌+◌, ◌-◌, ◌*◌, ◌/◌, ◌&&◌, nat_le, nat_lt, nat_eq, min, if◌then◌else◌, List, [], ◌∷◌, ◌++◌, codes, length, Option, Some, None, Result, Ok, Err, ℤ}
+use Rattle.std.specs.Prelude.{ℕ, true, ◌+◌, ◌-◌, ◌*◌, ◌/◌, ◌&&◌, nat_le, nat_lt, nat_eq, min, if◌then◌else◌, List, []}
+use Rattle.std.specs.Prelude.{◌∷◌, ◌++◌, codes, length, Option, Some, None, Result, Ok, Err, ℤ}
 use Rattle.std.specs.Cmp.Lexicographic.{pointwise}
 use Rattle.std.specs.Fmt.{decimal}
 use Rattle.def_fraction.specs.Fraction.{Fraction, most, zero_fraction, is_zero}
@@ -16,7 +17,9 @@ use Rattle.def_cert_text.specs.Fields.{◌>>=◌, space, feed, fixed_word, numbe
 use Rattle.def_cert_text.specs.Versions.{PrintedBracket, VersionedCertificate, has_second}
 use Rattle.def_cert_text.specs.declared.version.TextVersion.{TextVersion}
 use Rattle.def_cert_text.specs.declared.version.TextVersion.TheVariants as versions
-use Rattle.def_cert_text.specs.Formats.{Format, text_of, one_field, whole_field, integer_field, is_lowest_within, fraction_field, nonzero_field, fixed_field, after_fixed, and_then, seen_as, each_from, where_asked, read_number, row_of_numbers}
+use Rattle.def_cert_text.specs.Formats.{Format, text_of, one_field, whole_field, integer_field, is_lowest_within}
+use Rattle.def_cert_text.specs.Formats.{fraction_field, nonzero_field, fixed_field, after_fixed, and_then, seen_as}
+use Rattle.def_cert_text.specs.Formats.{each_from, where_asked, read_number, row_of_numbers}
 
 abbrev pub after_word : {A : Type 0} → List ℕ → Format A → Format A
 after_word wanted f = after_fixed fixed_word wanted space f
@@ -26,13 +29,15 @@ abbrev pub NumbersOfGame : Type 0
 NumbersOfGame = (ℕ × ℕ) × ((ℕ × ℕ) × ((ℕ × ℕ) × ((ℕ × Fraction) × ℕ)))
 
 abbrev pub size_line : Format (ℕ × ℕ)
-size_line = after_word (codes "nodes") (and_then (whole_field 1 most_nodes space) (λ nodes. after_word (codes "leaves") (whole_field 1 most_nodes feed)))
+size_line = after_word (codes "nodes") (and_then (whole_field 1 most_nodes space)
+    (λ nodes. after_word (codes "leaves") (whole_field 1 most_nodes feed)))
 
 abbrev pub sets_line : Format (ℕ × ℕ)
 sets_line = after_word (codes "sets") (and_then (whole_field 0 most_nodes space) (λ one. whole_field 0 most_nodes feed))
 
 abbrev pub sequences_line : Format (ℕ × ℕ)
-sequences_line = after_word (codes "sequences") (and_then (whole_field 1 most_nodes space) (λ one. whole_field 1 most_nodes feed))
+sequences_line = after_word (codes "sequences") (and_then (whole_field 1 most_nodes space)
+    (λ one. whole_field 1 most_nodes feed))
 
 abbrev pub sum_field : Format Fraction
 sum_field = after_word (codes "sum") (nonzero_field most feed)
@@ -47,7 +52,8 @@ unit_and_sum = record {
   fits = λ p. (nat_le 1 p.0 && nat_le p.0 most) && is_lowest_within most p.1;
   items = λ p. field number (decimal p.0) ∷ sum_items p.1;
   read = λ total bytes. read_number 1 most total bytes >>= λ n.
-      (if n.0.1 then Ok ((n.0.0, zero_fraction), n.1) else (sum_field.read total n.1 >>= λ sum. Ok ((n.0.0, sum.0), sum.1)));
+      (if n.0.1 then Ok ((n.0.0, zero_fraction), n.1) else (sum_field.read total n.1 >>= λ sum. Ok
+      ((n.0.0, sum.0), sum.1)));
 }
 
 abbrev pub unit_line : Format (ℕ × Fraction)
@@ -78,15 +84,23 @@ payoff_lines versions.One = and_then unit_line (λ unit. mass_line)
 payoff_lines versions.Two = seen_as payoffs_of_parts parts_of_payoffs (and_then unit_alone_line (λ unit. and_then mass_line (λ mass. sum_line)))
 
 abbrev pub game_lines_of : TextVersion → Format NumbersOfGame
-game_lines_of v = and_then size_line (λ size. and_then sets_line (λ sets. and_then sequences_line (λ sequences. payoff_lines v)))
+game_lines_of v = and_then size_line (λ size. and_then sets_line
+    (λ sets. and_then sequences_line (λ sequences. payoff_lines v)))
 
 -- ---- the line behind them: what was asked
 abbrev pub asked_line : Format (ℕ × (ℕ × ℕ))
 asked_line = after_word (codes "rounds") (and_then (whole_field 0 most_rounds space) (λ rounds.
-    after_word (codes "every") (and_then (whole_field 1 most_rounds space) (λ every. after_word (codes "scale") (whole_field 1 most_scale feed)))))
+    after_word (codes "every") (and_then (whole_field 1 most_rounds space)
+    (λ every. after_word (codes "scale") (whole_field 1 most_scale feed)))))
 
 abbrev pub numbers_of_game : Head → NumbersOfGame
-numbers_of_game head = ((head.nodes, head.leaves), ((head.sets_one, head.sets_two), ((head.sequences_one, head.sequences_two), ((head.unit, head.sum), head.mass))))
+numbers_of_game head = (
+  (head.nodes, head.leaves),
+  (
+    (head.sets_one, head.sets_two),
+    ((head.sequences_one, head.sequences_two), ((head.unit, head.sum), head.mass)),
+  ),
+)
 
 abbrev pub parts_of_head : Head → (NumbersOfGame × (ℕ × (ℕ × ℕ)))
 parts_of_head head = (numbers_of_game head, (head.rounds, (head.every, head.scale)))
@@ -115,11 +129,18 @@ abbrev pub parts_of_trace_line : TraceLine → (ℕ × (ℕ × (ℤ × (ℕ × �
 parts_of_trace_line line = (line.round, (line.low_round, (line.low, (line.high_round, line.high))))
 
 abbrev pub trace_line_of_parts : (ℕ × (ℕ × (ℤ × (ℕ × ℤ)))) → TraceLine
-trace_line_of_parts p = record { round = p.0; low_round = p.1.0; low = p.1.1.0; high_round = p.1.1.1.0; high = p.1.1.1.1 }
+trace_line_of_parts p = record {
+  round = p.0;
+  low_round = p.1.0;
+  low = p.1.1.0;
+  high_round = p.1.1.1.0;
+  high = p.1.1.1.1;
+}
 
 -- the line of the evaluation after this round
 abbrev pub line_of_round : ℕ → Format TraceLine
-line_of_round k = seen_as trace_line_of_parts parts_of_trace_line (after_word (codes "trace") (and_then (whole_field k k space) (λ round.
+line_of_round k = seen_as trace_line_of_parts parts_of_trace_line
+    (after_word (codes "trace") (and_then (whole_field k k space) (λ round.
     and_then (whole_field 1 k space) (λ low_round. and_then (integer_field most_printed space) (λ low.
     and_then (whole_field 1 k space) (λ high_round. integer_field most_printed feed))))))
 
@@ -146,19 +167,26 @@ abbrev pub after_player : {A : Type 0} → List ℕ → List ℕ → Format A �
 after_player wanted player f = after_word wanted (after_word player f)
 
 abbrev pub plan_lines : List ℕ → ℕ → Format PrintedPlan
-plan_lines player sets = seen_as (λ (p : ℕ × List (List ℕ)). record { root = p.0; weights = p.1 }) (λ (plan : PrintedPlan). (plan.root, plan.weights))
-    (after_player (codes "plan") player (and_then (whole_field 1 most_root feed) (λ root. each_from 1 sets weights_line)))
+plan_lines player sets = seen_as (λ (p : ℕ × List (List ℕ)). record { root = p.0; weights = p.1 })
+    (λ (plan : PrintedPlan). (plan.root, plan.weights))
+    (after_player (codes "plan") player (and_then (whole_field 1 most_root feed)
+    (λ root. each_from 1 sets weights_line)))
 
 abbrev pub value_line : ℕ → Format SetReply
-value_line set = seen_as (λ (p : ℤ × ℕ). record { value = p.0; choice = p.1 }) (λ (reply : SetReply). (reply.value, reply.choice))
-    (after_set_number (codes "value") set (and_then (integer_field most_printed space) (λ value. whole_field 1 most_actions feed)))
+value_line set = seen_as (λ (p : ℤ × ℕ). record { value = p.0; choice = p.1 })
+    (λ (reply : SetReply). (reply.value, reply.choice))
+    (after_set_number (codes "value") set (and_then (integer_field most_printed space)
+    (λ value. whole_field 1 most_actions feed)))
 
 abbrev pub reply_lines : List ℕ → ℕ → Format Reply
-reply_lines player sets = seen_as (λ (p : ℤ × List SetReply). record { total = p.0; sets = p.1 }) (λ (reply : Reply). (reply.total, reply.sets))
-    (after_player (codes "reply") player (and_then (integer_field most_printed feed) (λ total. each_from 1 sets value_line)))
+reply_lines player sets = seen_as (λ (p : ℤ × List SetReply). record { total = p.0; sets = p.1 })
+    (λ (reply : Reply). (reply.total, reply.sets))
+    (after_player (codes "reply") player (and_then (integer_field most_printed feed)
+    (λ total. each_from 1 sets value_line)))
 
 abbrev pub bracket_line : Format (Fraction × Fraction)
-bracket_line = after_word (codes "bracket") (and_then (fraction_field most_printed space) (λ low. fraction_field most_printed feed))
+bracket_line = after_word (codes "bracket") (and_then (fraction_field most_printed space)
+    (λ low. fraction_field most_printed feed))
 
 -- ---- all that stands below the head where rounds were asked
 abbrev pub PartsOfBounds : Type 0
@@ -180,15 +208,18 @@ bounds_of_parts p = record {
 
 abbrev pub bounds_lines : Head → Format PrintedBounds
 bounds_lines head = seen_as bounds_of_parts parts_of_bounds
-    (and_then (trace_lines head) (λ trace. and_then (plan_lines (codes "1") head.sets_one) (λ plan_one. and_then (reply_lines (codes "2") head.sets_two) (λ reply_two.
-    and_then (plan_lines (codes "2") head.sets_two) (λ plan_two. and_then (reply_lines (codes "1") head.sets_one) (λ reply_one. bracket_line))))))
+    (and_then (trace_lines head) (λ trace. and_then (plan_lines (codes "1") head.sets_one)
+    (λ plan_one. and_then (reply_lines (codes "2") head.sets_two) (λ reply_two.
+    and_then (plan_lines (codes "2") head.sets_two) (λ plan_two. and_then (reply_lines (codes "1") head.sets_one)
+    (λ reply_one. bracket_line))))))
 
 -- ---- all lines below the first, up to those behind the bounds
 abbrev pub end_line : Format (Unit {0})
 end_line = fixed_field fixed_word (codes "end") feed
 
 abbrev pub lines_of : {A : Type 0} → TextVersion → (Head → Format A) → Format (Head × (Option PrintedBounds × A))
-lines_of v end = and_then (head_lines_of v) (λ head. and_then (where_asked (nat_lt 0 head.rounds) (bounds_lines head)) (λ bounds. end head))
+lines_of v end = and_then (head_lines_of v) (λ head. and_then (where_asked (nat_lt 0 head.rounds) (bounds_lines head))
+    (λ bounds. end head))
 
 -- ---- the version, which the first line names, and the bracket of player two's payoff behind the bounds of version 2
 abbrev pub version_text : TextVersion → List ℕ
@@ -216,7 +247,11 @@ abbrev pub parts_of_versioned : VersionedCertificate → PartsOfVersioned
 parts_of_versioned c = (c.version, (c.certificate.head, (c.certificate.bounds, (c.second, tt))))
 
 abbrev pub versioned_of_parts : PartsOfVersioned → VersionedCertificate
-versioned_of_parts p = record { version = p.0; certificate = record { head = p.1.0; bounds = p.1.1.0 }; second = p.1.1.1.0 }
+versioned_of_parts p = record {
+  version = p.0;
+  certificate = record { head = p.1.0; bounds = p.1.1.0 };
+  second = p.1.1.1.0;
+}
 
 abbrev pub versioned_certificate : Format VersionedCertificate
 versioned_certificate = seen_as versioned_of_parts parts_of_versioned

@@ -1,5 +1,6 @@
 -- The fields of a text: what stands between spaces and line feeds, which separate them.
-use Rattle.std.specs.Prelude.{ℕ, ◌-◌, Bool, true, false, ◌==◌, ◌||◌, not, List, [], ◌∷◌, ◌++◌, length, take, drop, Option, Some, None, Result, Ok, Err, if◌then◌else◌}
+use Rattle.std.specs.Prelude.{ℕ, ◌-◌, Bool, true, false, ◌==◌, ◌||◌, not, List, [], ◌∷◌, ◌++◌, length, take, drop}
+use Rattle.std.specs.Prelude.{Option, Some, None, Result, Ok, Err, if◌then◌else◌}
 use Rattle.std.specs.List.{prefix_len}
 use Rattle.def_cert_text.specs.declared.fault.CertFault.{CertFault}
 use Rattle.def_cert_text.specs.declared.fault.CertFault.TheVariants.{CertSyntax, CertNumber, CertVersion, CertShort}
@@ -60,7 +61,8 @@ field_fault version at = CertVersion
 -- a value, and what is left behind the separator, if it is this one
 abbrev pub separated_by : {A : Type 0} → ℕ → ℕ → A → List ℕ → Result (A × List ℕ) CertFault
 separated_by sep total x [] = Err CertShort
-separated_by sep total x (byte ∷ left) = if byte == sep then Ok (x, left) else Err (CertSyntax (total - length (byte ∷ left)))
+separated_by sep total x (byte ∷ left) = if byte == sep then Ok (x, left) else Err
+    (CertSyntax (total - length (byte ∷ left)))
 
 abbrev pub if_fit : {A : Type 0} → CertFault → ℕ → ℕ → Option A → List ℕ → Result (A × List ℕ) CertFault
 if_fit unfit sep total None left = Err unfit

@@ -6,7 +6,8 @@
 use Rattle.std.specs.Prelude.{◌≡◌, ◌≢◌, ℕ, ◌-◌, Bool, true, false, List, [], ◌∷◌, ◌++◌, length}
 use Rattle.def_cert_text.specs.declared.fault.CertFault.{CertFault}
 use Rattle.def_cert_text.specs.declared.fault.CertFault.TheVariants.{CertSyntax, CertShort, CertTrailing}
-use Rattle.def_cert_text.specs.Fields.{FieldKind, TextItem, field, separator, items_text, next_field, behind_field, is_empty, field_fault}
+use Rattle.def_cert_text.specs.Fields.{FieldKind, TextItem, field, separator, items_text, next_field, behind_field}
+use Rattle.def_cert_text.specs.Fields.{is_empty, field_fault}
 use Rattle.def_cert_text.specs.Versions.{VersionedFits}
 use Rattle.def_cert_text.specs.Formats.{Format, text_of}
 use Rattle.def_cert_text.specs.CertText.{versioned_certificate}
@@ -64,7 +65,8 @@ pub record HasFirstFault {A : Type 0} (f : Format A) (total : ℕ) (bytes : List
   pub stop : StopsReading f items place total left fault
 
 -- more stands behind a whole value
-pub record IsTrailing {A : Type 0} (f : Format A) (Fits : A → Type 0) (bytes : List ℕ) (fault : CertFault) : Type 0 where
+pub record IsTrailing {A : Type 0} (f : Format A) (Fits : A → Type 0) (bytes : List ℕ) (fault : CertFault) : Type
+    0 where
   pub value : A
   pub left : List ℕ
   pub fits : Fits value
@@ -72,7 +74,8 @@ pub record IsTrailing {A : Type 0} (f : Format A) (Fits : A → Type 0) (bytes :
   pub more : left ≢ []
   pub fault_is : fault ≡ CertTrailing (length (text_of f value))
 
-pub data FirstFaultOf {A : Type 0} (f : Format A) (Fits : A → Type 0) (bytes : List ℕ) (fault : CertFault) : Type 0 where
+pub data FirstFaultOf {A : Type 0} (f : Format A) (Fits : A → Type 0) (bytes : List ℕ) (fault : CertFault) : Type
+    0 where
   within : HasFirstFault f (length bytes) bytes fault → FirstFaultOf f Fits bytes fault
   behind : IsTrailing f Fits bytes fault → FirstFaultOf f Fits bytes fault
 

@@ -1,6 +1,7 @@
 -- A format says which values fit, of which items they are made, and what reading gives:
 -- one definition for writing and reading.
-use Rattle.std.specs.Prelude.{ℕ, zero, suc, ◌+◌, ◌-◌, Bool, true, false, ◌==◌, ◌&&◌, not, nat_le, nat_eq, List, [], ◌∷◌, ◌++◌, length, Option, Some, None, Result, Ok, Err, ℤ, unsigned_abs, if◌then◌else◌}
+use Rattle.std.specs.Prelude.{ℕ, zero, suc, ◌+◌, ◌-◌, Bool, true, false, ◌==◌, ◌&&◌, not, nat_le, nat_eq, List, [], ◌∷◌}
+use Rattle.std.specs.Prelude.{◌++◌, length, Option, Some, None, Result, Ok, Err, ℤ, unsigned_abs, if◌then◌else◌}
 use Rattle.std.specs.Cmp.Lexicographic.{pointwise}
 use Rattle.std.specs.Fmt.{decimal, signed_decimal}
 use Rattle.def_fraction.specs.Divisors.{gcd}
@@ -8,7 +9,8 @@ use Rattle.def_fraction.specs.Fraction.{Fraction, is_zero}
 use Rattle.def_fraction.specs.Text.{fraction_text}
 use Rattle.def_cert_text.specs.declared.fault.CertFault.{CertFault}
 use Rattle.def_cert_text.specs.declared.fault.CertFault.TheVariants.{CertNumber, CertShort}
-use Rattle.def_cert_text.specs.Fields.{◌>>=◌, space, feed, FieldKind, number, TextItem, field, separator, items_text, next_field, behind_field, is_empty, read_field}
+use Rattle.def_cert_text.specs.Fields.{◌>>=◌, space, feed, FieldKind, number, TextItem, field, separator, items_text}
+use Rattle.def_cert_text.specs.Fields.{next_field, behind_field, is_empty, read_field}
 use Rattle.def_cert_text.specs.Numbers.{whole_in, integer_in, fraction_in, nonzero_in}
 
 -- reading gives a value and the bytes that are left, from the length of the whole and the bytes from a place on
@@ -35,13 +37,15 @@ abbrev pub integer_field : ℕ → ℕ → Format ℤ
 integer_field most sep = one_field number (λ n. nat_le (unsigned_abs n) most) signed_decimal (integer_in most) sep
 
 abbrev pub is_lowest_within : ℕ → Fraction → Bool
-is_lowest_within most f = (nat_le 1 f.den && gcd (unsigned_abs f.num) f.den == 1) && (nat_le (unsigned_abs f.num) most && nat_le f.den most)
+is_lowest_within most f = (nat_le 1 f.den && gcd (unsigned_abs f.num) f.den == 1)
+    && (nat_le (unsigned_abs f.num) most && nat_le f.den most)
 
 abbrev pub fraction_field : ℕ → ℕ → Format Fraction
 fraction_field most sep = one_field number (is_lowest_within most) fraction_text (fraction_in most) sep
 
 abbrev pub nonzero_field : ℕ → ℕ → Format Fraction
-nonzero_field most sep = one_field number (λ f. is_lowest_within most f && not (is_zero f)) fraction_text (nonzero_in most) sep
+nonzero_field most sep = one_field number (λ f. is_lowest_within most f && not (is_zero f)) fraction_text
+    (nonzero_in most) sep
 
 -- the same bytes, which say nothing more
 abbrev pub same_bytes : List ℕ → List ℕ → Option (Unit {0})
@@ -88,7 +92,8 @@ each_items f k (x ∷ xs) = (f k).items x ++ each_items f (k + 1) xs
 
 unfoldable pub read_each : {A : Type 0} → (ℕ → Format A) → ℕ → ℕ → ℕ → List ℕ → Result (List A × List ℕ) CertFault
 read_each f k zero total bytes = Ok ([], bytes)
-read_each f k (suc count) total bytes = (f k).read total bytes >>= λ x. read_each f (k + 1) count total x.1 >>= λ xs. Ok (x.0 ∷ xs.0, xs.1)
+read_each f k (suc count) total bytes = (f k).read total bytes >>= λ x. read_each f (k + 1) count total x.1 >>= λ xs. Ok
+    (x.0 ∷ xs.0, xs.1)
 
 abbrev pub each_from : {A : Type 0} → ℕ → ℕ → (ℕ → Format A) → Format (List A)
 each_from k count f = record {
@@ -152,7 +157,8 @@ read_last most total bytes = (whole_field 0 most feed).read total bytes >>= λ n
 unfoldable pub read_row : ℕ → ℕ → ℕ → List ℕ → Result (List ℕ × List ℕ) CertFault
 read_row most zero total bytes = read_last most total bytes
 read_row most (suc more) total bytes =
-    read_number 0 most total bytes >>= λ n. (if n.0.1 then Ok (n.0.0 ∷ [], n.1) else (read_row most more total n.1 >>= λ ns. Ok (n.0.0 ∷ ns.0, ns.1)))
+    read_number 0 most total bytes >>= λ n. (if n.0.1 then Ok (n.0.0 ∷ [], n.1)
+    else (read_row most more total n.1 >>= λ ns. Ok (n.0.0 ∷ ns.0, ns.1)))
 
 abbrev pub row_of_numbers : ℕ → ℕ → Format (List ℕ)
 row_of_numbers most more = record { fits = row_fits most more; items = row_items; read = read_row most more }

@@ -1,5 +1,6 @@
 -- Numbers as fields: no leading zero, no `+`, and `-` only before a number that isn't 0.
-use Rattle.std.specs.Prelude.{ℕ, Bool, true, ◌==◌, ◌&&◌, not, nat_le, List, [], ◌∷◌, take, drop, Option, Some, None, ℤ, pos, unsigned_abs, if◌then◌else◌}
+use Rattle.std.specs.Prelude.{ℕ, Bool, true, ◌==◌, ◌&&◌, not, nat_le, List, [], ◌∷◌, take, drop, Option, Some, None, ℤ}
+use Rattle.std.specs.Prelude.{pos, unsigned_abs, if◌then◌else◌}
 use Rattle.std.specs.List.{prefix_len}
 use Rattle.std.specs.Option.{option_map}
 use Rattle.def_fraction.specs.Digits.{is_numeral, number_of}
@@ -18,12 +19,14 @@ leads_no_zero (d ∷ e ∷ ds) = not (d == zero_digit)
 -- a whole number of this range
 unfoldable pub whole_in : ℕ → ℕ → List ℕ → Option ℕ
 whole_in low high field =
-    if is_numeral field && (leads_no_zero field && (nat_le low (number_of field) && nat_le (number_of field) high)) then Some (number_of field) else None
+    if is_numeral field && (leads_no_zero field && (nat_le low (number_of field) && nat_le (number_of field) high))
+    then Some (number_of field) else None
 
 -- a number of this size at most, with a sign where it is below 0
 unfoldable pub integer_in : ℕ → List ℕ → Option ℤ
 integer_in most [] = None
-integer_in most (b ∷ ds) = if b == minus then option_map negative_of (whole_in 1 most ds) else option_map (λ (n : ℕ). pos n) (whole_in 0 most (b ∷ ds))
+integer_in most (b ∷ ds) = if b == minus then option_map negative_of (whole_in 1 most ds) else option_map
+    (λ (n : ℕ). pos n) (whole_in 0 most (b ∷ ds))
 
 abbrev pub is_no_slash : ℕ → Bool
 is_no_slash byte = not (byte == slash)
@@ -41,7 +44,8 @@ lowest_in most (Some num) (b ∷ ds) = over_in num (whole_in 2 most ds)
 
 -- a fraction in lowest terms whose parts are of this size at most: num alone, or num/den where den is 2 at least
 unfoldable pub fraction_in : ℕ → List ℕ → Option Fraction
-fraction_in most field = lowest_in most (integer_in most (take (prefix_len is_no_slash field) field)) (drop (prefix_len is_no_slash field) field)
+fraction_in most field = lowest_in most (integer_in most (take (prefix_len is_no_slash field) field))
+    (drop (prefix_len is_no_slash field) field)
 
 abbrev pub unless_zero : Option Fraction → Option Fraction
 unless_zero None = None

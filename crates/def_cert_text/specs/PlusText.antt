@@ -1,5 +1,5 @@
--- The text of a run of CFR+: that of a certificate of version 2 under a first line of its own. Each law is the contract of
--- a function of this crate.
+-- The text of a run of CFR+: that of a certificate of version 2 under a first line of its own. Each law is the contract
+-- of a function of this crate.
 --     below_first_text c     the lines below the first
 --     plus_text c            the same lines below `XGPLUS 1`
 use Rattle.std.specs.Prelude.{◌≡◌, ℕ, List, [], ◌∷◌, ◌++◌, codes, pos, Err}
@@ -19,7 +19,8 @@ use Rattle.def_cert_text.specs.Laws.{TextsTell, versioned_head, with_second}
 use Rattle.def_cert_text.specs.VersionTexts.{bracket_of, no_round_head}
 
 abbrev pub below_first_text : VersionedCertificate → List ℕ
-below_first_text c = text_of (lines_of c.version (last_lines c.version)) (c.certificate.head, (c.certificate.bounds, (c.second, tt)))
+below_first_text c = text_of (lines_of c.version (last_lines c.version))
+    (c.certificate.head, (c.certificate.bounds, (c.second, tt)))
 
 abbrev pub plus_line : List ℕ
 plus_line = codes "XGPLUS 1" ++ feed ∷ []
@@ -68,7 +69,8 @@ six_rounds_bounds = record {
 }
 
 abbrev pub six_rounds : VersionedCertificate
-six_rounds = with_second six_rounds_head six_rounds_bounds (bracket_of (over (negative_of 1) 1) (over (negative_of 41) 42))
+six_rounds = with_second six_rounds_head six_rounds_bounds
+    (bracket_of (over (negative_of 1) 1) (over (negative_of 41) 42))
 
 abbrev pub six_rounds_lines : List (List ℕ)
 six_rounds_lines =
@@ -113,7 +115,8 @@ one_leaf_bounds = record {
 }
 
 abbrev pub one_leaf_of_plus : VersionedCertificate
-one_leaf_of_plus = with_second one_leaf_head one_leaf_bounds (bracket_of (over (negative_of 1) 3) (over (negative_of 1) 3))
+one_leaf_of_plus = with_second one_leaf_head one_leaf_bounds
+    (bracket_of (over (negative_of 1) 3) (over (negative_of 1) 3))
 
 abbrev pub one_leaf_lines_of_plus : List (List ℕ)
 one_leaf_lines_of_plus =

@@ -41,7 +41,8 @@ shared_head = record {
 
 abbrev pub shared_bounds : PrintedBounds
 shared_bounds = record {
-  trace = traced 1 1 (negative_of 27) 1 (pos 6) ∷ traced 2 2 (negative_of 3) 1 (pos 6) ∷ traced 3 3 (pos 0) 1 (pos 6) ∷ [];
+  trace = traced 1 1 (negative_of 27) 1 (pos 6) ∷ traced 2 2 (negative_of 3) 1 (pos 6) ∷ traced 3 3 (pos 0) 1 (pos 6)
+      ∷ [];
   plan_one = record { root = 18; weights = (15 ∷ 3 ∷ []) ∷ (3 ∷ 15 ∷ []) ∷ [] };
   reply_two = record { total = pos 0; sets = said (pos 0) 2 ∷ [] };
   plan_two = record { root = 6; weights = (3 ∷ 3 ∷ []) ∷ [] };

@@ -32,39 +32,80 @@ other_line game head line far = record {
 nodes_line : (game : WeighedGame) (head : Head)
     → Decides (eqb head.nodes game.nodes && eqb head.leaves (length game.form.leaves)) (NamesLine game head 2)
 nodes_line game head =
-    let d = both head.nodes game.nodes head.leaves (length game.form.leaves) in
-    (λ e. record { nodes = λ l. d.0 e; sets = λ l. absurd (omega arith); sequences = λ l. absurd (omega arith); unit = λ l. absurd (omega arith); mass_is = λ l. absurd (omega arith) }, λ s. d.1 (s.nodes refl))
+    let d = both head.nodes game.nodes head.leaves (length game.form.leaves) in (
+      λ e. record {
+        nodes = λ l. d.0 e;
+        sets = λ l. absurd (omega arith);
+        sequences = λ l. absurd (omega arith);
+        unit = λ l. absurd (omega arith);
+        mass_is = λ l. absurd (omega arith);
+      },
+      λ s. d.1 (s.nodes refl),
+    )
 
 sets_line : (game : WeighedGame) (head : Head)
     → Decides (eqb head.sets_one (length game.form.sets_one) && eqb head.sets_two (length game.form.sets_two)) (NamesLine game head 3)
 sets_line game head =
-    let d = both head.sets_one (length game.form.sets_one) head.sets_two (length game.form.sets_two) in
-    (λ e. record { nodes = λ l. absurd (omega arith); sets = λ l. d.0 e; sequences = λ l. absurd (omega arith); unit = λ l. absurd (omega arith); mass_is = λ l. absurd (omega arith) }, λ s. d.1 (s.sets refl))
+    let d = both head.sets_one (length game.form.sets_one) head.sets_two (length game.form.sets_two) in (
+      λ e. record {
+        nodes = λ l. absurd (omega arith);
+        sets = λ l. d.0 e;
+        sequences = λ l. absurd (omega arith);
+        unit = λ l. absurd (omega arith);
+        mass_is = λ l. absurd (omega arith);
+      },
+      λ s. d.1 (s.sets refl),
+    )
 
 sequences_line : (game : WeighedGame) (head : Head)
     → Decides (eqb head.sequences_one (sequence_count game.form.sets_one) && eqb head.sequences_two (sequence_count game.form.sets_two)) (NamesLine game head 4)
 sequences_line game head =
-    let d = both head.sequences_one (sequence_count game.form.sets_one) head.sequences_two (sequence_count game.form.sets_two) in
-    (λ e. record { nodes = λ l. absurd (omega arith); sets = λ l. absurd (omega arith); sequences = λ l. d.0 e; unit = λ l. absurd (omega arith); mass_is = λ l. absurd (omega arith) }, λ s. d.1 (s.sequences refl))
+    let d = both head.sequences_one (sequence_count game.form.sets_one) head.sequences_two (sequence_count game.form.sets_two) in (
+      λ e. record {
+        nodes = λ l. absurd (omega arith);
+        sets = λ l. absurd (omega arith);
+        sequences = λ l. d.0 e;
+        unit = λ l. absurd (omega arith);
+        mass_is = λ l. absurd (omega arith);
+      },
+      λ s. d.1 (s.sequences refl),
+    )
 
 unit_line : (game : WeighedGame) (head : Head)
     → Decides (eqb head.unit game.unit && is_same_fraction head.sum game.sum) (NamesLine game head 5)
 unit_line game head =
-    let d = Decides-and (eqb head.unit game.unit) (is_same_fraction head.sum game.sum) (Decides-eqb head.unit game.unit) (same_fraction head.sum game.sum) in
-    (λ e. record { nodes = λ l. absurd (omega arith); sets = λ l. absurd (omega arith); sequences = λ l. absurd (omega arith); unit = λ l. d.0 e; mass_is = λ l. absurd (omega arith) }, λ s. d.1 (s.unit refl))
+    let d = Decides-and (eqb head.unit game.unit) (is_same_fraction head.sum game.sum) (Decides-eqb head.unit game.unit) (same_fraction head.sum game.sum) in (
+      λ e. record {
+        nodes = λ l. absurd (omega arith);
+        sets = λ l. absurd (omega arith);
+        sequences = λ l. absurd (omega arith);
+        unit = λ l. d.0 e;
+        mass_is = λ l. absurd (omega arith);
+      },
+      λ s. d.1 (s.unit refl),
+    )
 
 mass_line : (game : WeighedGame) (head : Head)
     → Decides (eqb head.mass (mass_of game.form.leaves)) (NamesLine game head 6)
 mass_line game head =
-    let d = Decides-eqb head.mass (mass_of game.form.leaves) in
-    (λ e. record { nodes = λ l. absurd (omega arith); sets = λ l. absurd (omega arith); sequences = λ l. absurd (omega arith); unit = λ l. absurd (omega arith); mass_is = λ l. d.0 e }, λ s. d.1 (s.mass_is refl))
+    let d = Decides-eqb head.mass (mass_of game.form.leaves) in (
+      λ e. record {
+        nodes = λ l. absurd (omega arith);
+        sets = λ l. absurd (omega arith);
+        sequences = λ l. absurd (omega arith);
+        unit = λ l. absurd (omega arith);
+        mass_is = λ l. d.0 e;
+      },
+      λ s. d.1 (s.mass_is refl),
+    )
 
 -- one test of a line, and those of the lines behind it
 pub line_step : (n : ℕ) (b : Bool) (ts : List (Option TestFault)) (Says : ℕ → Type 0) → Decides b (Says 0)
     → Searches TestFault HeadDiffers (first_failing ts) (n + 1) (λ i. Says (suc i))
     → Searches TestFault HeadDiffers (first_failing (unless b (HeadDiffers n) ∷ ts)) n Says
 line_step n b ts Says d s =
-    subst (λ r. Searches TestFault HeadDiffers r n Says) (sym (first_unless b (HeadDiffers n) ts)) (Searches-step TestFault HeadDiffers b (first_failing ts) n Says d s)
+    subst (λ r. Searches TestFault HeadDiffers r n Says) (sym (first_unless b (HeadDiffers n) ts))
+    (Searches-step TestFault HeadDiffers b (first_failing ts) n Says d s)
 
 searched : (game : WeighedGame) (head : Head)
     → Searches TestFault HeadDiffers (first_failing (head_tests game head)) 2 (λ i. NamesLine game head (2 + i))
@@ -116,8 +157,14 @@ caused : (game : WeighedGame) (head : Head) (f : TestFault) → HeadFault game h
 caused game head (HeadDiffers line) c =
     ⊎_elim (λ less. absurd (c.fails (other_line game head line (λ a b. omega arith))))
     (λ more.
-    let back : line ≡ 2 + (line - 2) = omega arith in
-    (line - 2, ap HeadDiffers back, record { fails = λ s. c.fails (subst (NamesLine game head) (sym back) s); earlier = λ j low. c.earlier (2 + j) (omega arith) }))
+    let back : line ≡ 2 + (line - 2) = omega arith in (
+      line - 2,
+      ap HeadDiffers back,
+      record {
+        fails = λ s. c.fails (subst (NamesLine game head) (sym back) s);
+        earlier = λ j low. c.earlier (2 + j) (omega arith);
+      },
+    ))
     (cases_lt line 2)
 caused game head (NotAPlan p set) c = absurd c
 caused game head (ValueTooGood p set action) c = absurd c

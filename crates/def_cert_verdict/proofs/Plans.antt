@@ -1,5 +1,6 @@
 -- The tests of a plan.
-use Rattle.std.proofs.Common.{◌≡◌, ℕ, zero, suc, ◌+◌, ◌⊎◌, ◌&&◌, eqb, leb, List, [], ◌∷◌, length, length-append, slice_index, Option, Some, None, All, refl, sym, ap, ◌∙◌, subst, arith, ⊎_elim, inl, inr}
+use Rattle.std.proofs.Common.{◌≡◌, ℕ, zero, suc, ◌+◌, ◌⊎◌, ◌&&◌, eqb, leb, List, [], ◌∷◌, length, length-append, slice_index, Option, Some, None, All, refl}
+use Rattle.std.proofs.Common.{sym, ap, ◌∙◌, subst, arith, ⊎_elim, inl, inr}
 use Rattle.std.specs.Bool.{Decides}
 use Rattle.std.specs.List.{AllZip}
 use Rattle.std.proofs.lemmas.Bool.Decides.{Decides-eqb, Decides-and, Decides-like}
@@ -12,12 +13,14 @@ use Rattle.def_sums.specs.Sum.{nat_sum_over}
 use Rattle.def_plan.specs.Form.{InformationSet, PlacedSet, placed, sequences_of}
 use Rattle.def_plan.specs.Plan.{AddsUp, first_not_adding}
 use Rattle.def_cert_verdict.specs.declared.fault.TestFault.{TestFault}
-use Rattle.def_cert_verdict.specs.declared.fault.TestFault.TheVariants.{HeadDiffers, NotAPlan, ValueTooGood, ReplyNotTight, TotalDiffers, TraceWidens, SecondDiffers}
+use Rattle.def_cert_verdict.specs.declared.fault.TestFault.TheVariants.{HeadDiffers, NotAPlan, ValueTooGood, ReplyNotTight, TotalDiffers, TraceWidens}
+use Rattle.def_cert_verdict.specs.declared.fault.TestFault.TheVariants.{SecondDiffers}
 use Rattle.def_cert_verdict.specs.Certificate.{PrintedPlan, joined, printed_numbers}
 use Rattle.def_cert_verdict.specs.Verdict.{unless, first_of_other_size, not_a_plan_at, plan_tests}
 use Rattle.def_cert_verdict.specs.Laws.{HoldsAsPlan}
 use Rattle.def_cert_verdict.specs.FaultCauses.{IsFirstNot, HasPrintedRoot, HasItsActions, AddsUpAt, IsBadPlan, other_root, other_size, not_adding, PlanFault}
-use Rattle.def_cert_verdict.proofs.TestsDecide.{TestsDecide, TestsDecide-one, TestsDecide-append, TestsDecide-like, Searches, Searches-end, Searches-stop, Searches-step}
+use Rattle.def_cert_verdict.proofs.TestsDecide.{TestsDecide, TestsDecide-one, TestsDecide-append, TestsDecide-like, Searches, Searches-end, Searches-stop}
+use Rattle.def_cert_verdict.proofs.TestsDecide.{Searches-step}
 
 abbrev itself : ℕ → ℕ
 itself n = n
@@ -126,7 +129,8 @@ InTurn player sets root plan f =
     ((f ≡ NotAPlan player 0) × (¬ (HasPrintedRoot root plan)))
     ⊎ (HasPrintedRoot root plan
     × (((i : ℕ) × (f ≡ NotAPlan player (1 + i)) × IsFirstNot (HasItsActions sets plan.weights) i)
-    ⊎ (((i : ℕ) → HasItsActions sets plan.weights i) × ((i : ℕ) × (f ≡ NotAPlan player (1 + i)) × IsFirstNot (AddsUpAt (printed_numbers plan) (placed sets)) i))))
+    ⊎ (((i : ℕ) → HasItsActions sets plan.weights i) × ((i : ℕ) × (f ≡ NotAPlan player (1 + i))
+    × IsFirstNot (AddsUpAt (printed_numbers plan) (placed sets)) i))))
 
 caused : (player : Player) (sets : List InformationSet) (root : ℕ) (plan : PrintedPlan) (f : TestFault)
     → InTurn player sets root plan f → PlanFault player sets root plan f

@@ -1,5 +1,6 @@
 -- The tests of a reply.
-use Rattle.std.proofs.Common.{◌≡◌, ℕ, zero, suc, ◌+◌, ◌-◌, ◌<◌, ◌⊎◌, ◌↔◌, ◌&&◌, Bool, not, leb, leb-true, List, [], ◌∷◌, map, length, ℤ, Option, Some, None, refl, sym, ap, ◌∙◌, subst, arith, ⊎_elim, inl, inr}
+use Rattle.std.proofs.Common.{◌≡◌, ℕ, zero, suc, ◌+◌, ◌-◌, ◌<◌, ◌⊎◌, ◌↔◌, ◌&&◌, Bool, not, leb, leb-true, List, [], ◌∷◌, map, length, ℤ, Option, Some, None}
+use Rattle.std.proofs.Common.{refl, sym, ap, ◌∙◌, subst, arith, ⊎_elim, inl, inr}
 use Rattle.std.specs.Prelude.{slice_get}
 use Rattle.std.specs.Ordering.{int_eq}
 use Rattle.std.specs.Bool.{Decides}
@@ -16,12 +17,15 @@ use Rattle.def_plan.specs.Plan.{chosen}
 use Rattle.def_plan.specs.Payoff.{worth, IsNoBetter}
 use Rattle.def_reply.specs.Reply.{Reply, SetReply, values_of, total, IsTight}
 use Rattle.def_cert_verdict.specs.declared.fault.TestFault.{TestFault}
-use Rattle.def_cert_verdict.specs.declared.fault.TestFault.TheVariants.{HeadDiffers, NotAPlan, ValueTooGood, ReplyNotTight, TotalDiffers, TraceWidens, SecondDiffers}
-use Rattle.def_cert_verdict.specs.Verdict.{first_failing, unless, is_better, action_test, set_tests, reply_tests, is_same_fraction, end_shown_by, total_test, whole_reply_tests}
+use Rattle.def_cert_verdict.specs.declared.fault.TestFault.TheVariants.{HeadDiffers, NotAPlan, ValueTooGood, ReplyNotTight, TotalDiffers, TraceWidens}
+use Rattle.def_cert_verdict.specs.declared.fault.TestFault.TheVariants.{SecondDiffers}
+use Rattle.def_cert_verdict.specs.Verdict.{first_failing, unless, is_better, action_test, set_tests, reply_tests, is_same_fraction, end_shown_by, total_test}
+use Rattle.def_cert_verdict.specs.Verdict.{whole_reply_tests}
 use Rattle.def_cert_verdict.specs.Laws.{HoldsAsTotal, HoldsAsReply}
 use Rattle.def_cert_verdict.specs.FaultCauses.{IsFirstNot, NoActionBetterAt, ReachedAt, TightAt, IsTooGood, IsNotReached, SetFault, TotalFault, ReplyFault}
 use Rattle.def_cert_verdict.proofs.Fractions.{same_fraction}
-use Rattle.def_cert_verdict.proofs.TestsDecide.{TestsDecide, TestsDecide-one, TestsDecide-append, TestsDecide-like, TestsDecide-search, Searches, Searches-end, Searches-step, Searches-like, first_if, not_less-Decides}
+use Rattle.def_cert_verdict.proofs.TestsDecide.{TestsDecide, TestsDecide-one, TestsDecide-append, TestsDecide-like, TestsDecide-search, Searches, Searches-end}
+use Rattle.def_cert_verdict.proofs.TestsDecide.{Searches-step, Searches-like, first_if, not_less-Decides}
 
 -- ---- the actions of a set
 better_decided : (player : Player) (a b : ℤ) → Decides (not (is_better player a b)) (IsNoBetter player a b)
@@ -36,14 +40,18 @@ first_action : (player : Player) (w : ℕ → ℤ) (h : PlacedSet) (r : SetReply
     → Decides (not (is_better player (w (chosen h m)) r.value)) (BetterFrom player w h r m (suc n) 0)
 first_action player w h r m n =
     let d = better_decided player (w (chosen h m)) r.value in
-    let here : m ≡ m + 0 = omega arith in
-    (λ e low. subst (λ k. IsNoBetter player (w (chosen h k)) r.value) here (d.0 e), λ b. d.1 (subst (λ k. IsNoBetter player (w (chosen h k)) r.value) (sym here) (b (omega arith))))
+    let here : m ≡ m + 0 = omega arith in (
+      λ e low. subst (λ k. IsNoBetter player (w (chosen h k)) r.value) here (d.0 e),
+      λ b. d.1 (subst (λ k. IsNoBetter player (w (chosen h k)) r.value) (sym here) (b (omega arith))),
+    )
 
 later_action : (player : Player) (w : ℕ → ℤ) (h : PlacedSet) (r : SetReply) (m n i : ℕ)
     → BetterFrom player w h r (m + 1) n i ↔ BetterFrom player w h r m (suc n) (suc i)
 later_action player w h r m n i =
-    let same : m + 1 + i ≡ m + suc i = omega arith in
-    (λ b low. subst (λ k. IsNoBetter player (w (chosen h k)) r.value) same (b (omega arith)), λ b low. subst (λ k. IsNoBetter player (w (chosen h k)) r.value) (sym same) (b (omega arith)))
+    let same : m + 1 + i ≡ m + suc i = omega arith in (
+      λ b low. subst (λ k. IsNoBetter player (w (chosen h k)) r.value) same (b (omega arith)),
+      λ b low. subst (λ k. IsNoBetter player (w (chosen h k)) r.value) (sym same) (b (omega arith)),
+    )
 
 actions_searched : (player : Player) (w : ℕ → ℤ) (k : ℕ) (h : PlacedSet) (r : SetReply) (m n : ℕ)
     → Searches TestFault (ValueTooGood player k) (first_failing (map (action_test player w k h r) (range_with_len m n))) m (BetterFrom player w h r m n)
@@ -53,7 +61,8 @@ actions_searched player w k h r m (suc n) =
     let bad : Bool = is_better player (w (chosen h m)) r.value in
     subst (λ o. Searches TestFault (ValueTooGood player k) o m (BetterFrom player w h r m (suc n))) (sym (first_if bad (ValueTooGood player k m) rest))
     (Searches-step TestFault (ValueTooGood player k) (not bad) (first_failing rest) m (BetterFrom player w h r m (suc n)) (first_action player w h r m n)
-    (Searches-like TestFault (ValueTooGood player k) (first_failing rest) (m + 1) (BetterFrom player w h r (m + 1) n) (λ i. BetterFrom player w h r m (suc n) (suc i))
+    (Searches-like TestFault (ValueTooGood player k) (first_failing rest) (m + 1) (BetterFrom player w h r (m + 1) n)
+    (λ i. BetterFrom player w h r m (suc n) (suc i))
     (later_action player w h r m n) (actions_searched player w k h r (m + 1) n)))
 
 -- ---- a set
@@ -120,8 +129,18 @@ shifted player w k h hs r rs (ValueTooGood p set action) first c =
       ),
     )
 shifted player w k h hs r rs (ReplyNotTight p set) first c =
-    let t = c.1.2 in
-    (c.0, (suc c.1.0, omega (arith, c.1.1), record { earlier = before_next player w h hs r rs c.1.0 first t.earlier; no_better = t.no_better; not_reached = t.not_reached }))
+    let t = c.1.2 in (
+      c.0,
+      (
+        suc c.1.0,
+        omega (arith, c.1.1),
+        record {
+          earlier = before_next player w h hs r rs c.1.0 first t.earlier;
+          no_better = t.no_better;
+          not_reached = t.not_reached;
+        },
+      ),
+    )
 shifted player w k h hs r rs (HeadDiffers line) first c = absurd c
 shifted player w k h hs r rs (NotAPlan p set) first c = absurd c
 shifted player w k h hs r rs (TotalDiffers end) first c = absurd c
@@ -134,8 +153,23 @@ at_first : (player : Player) (w : ℕ → ℤ) (k : ℕ) (h : PlacedSet) (hs : L
     → SetInTurn player w k h r f → SetFault player w k (h ∷ hs) (r ∷ rs) f
 at_first player w k h hs r rs f turn =
     ⊎_elim
-    (λ c. subst (SetFault player w k (h ∷ hs) (r ∷ rs)) (sym c.1)
-    (refl, (0, c.0, omega arith, refl, record { earlier = λ j low. absurd (omega arith); set = h; reply = r; set_there = refl; reply_there = refl; action = c.2 })))
+    (λ c. subst (SetFault player w k (h ∷ hs) (r ∷ rs)) (sym c.1) (
+      refl,
+      (
+        0,
+        c.0,
+        omega arith,
+        refl,
+        record {
+          earlier = λ j low. absurd (omega arith);
+          set = h;
+          reply = r;
+          set_there = refl;
+          reply_there = refl;
+          action = c.2;
+        },
+      ),
+    ))
     (λ c. subst (SetFault player w k (h ∷ hs) (r ∷ rs)) (sym c.1.0)
     (refl, (0, omega arith, record { earlier = λ j low. absurd (omega arith); no_better = c.0; not_reached = c.1.1 })))
     turn
@@ -189,7 +223,21 @@ not_reached_back : (player : Player) (w : ℕ → ℤ) (k : ℕ) (h : PlacedSet)
     → Either player w k h hs r rs (ReplyNotTight p set)
 not_reached_back player w k h hs r rs p set same zero e t = inl (inr (t.no_better, (not_tight player p set k same (omega arith), t.not_reached)))
 not_reached_back player w k h hs r rs p set same (suc n) e t =
-    inr (t.earlier 0 (omega arith), (same, (n, omega (arith, e), record { earlier = λ j low. t.earlier (suc j) (omega arith); no_better = t.no_better; not_reached = t.not_reached })))
+    inr (
+      t.earlier 0 (omega arith),
+      (
+        same,
+        (
+          n,
+          omega (arith, e),
+          record {
+            earlier = λ j low. t.earlier (suc j) (omega arith);
+            no_better = t.no_better;
+            not_reached = t.not_reached;
+          },
+        ),
+      ),
+    )
 
 either : (player : Player) (w : ℕ → ℤ) (k : ℕ) (h : PlacedSet) (hs : List PlacedSet) (r : SetReply) (rs : List SetReply)
     (f : TestFault)
@@ -259,7 +307,8 @@ sets_described player w k [] (r ∷ rs) = missing player w k [] (r ∷ rs) tt (�
 sets_described player w k (h ∷ hs) [] = missing player w k (h ∷ hs) [] tt (λ h. h) (λ i g r there here. no_place [] refl i r here)
 sets_described player w k (h ∷ hs) (r ∷ rs) =
     TestsDecide-like (reply_tests player w k (h ∷ hs) (r ∷ rs)) _ ((j : ℕ) → TightAt player w (h ∷ hs) (r ∷ rs) j) _ (SetFault player w k (h ∷ hs) (r ∷ rs))
-    (TestsDecide-append (set_tests player w k h r) (reply_tests player w (k + 1) hs rs) _ _ _ _ (set_described player w k h r) (sets_described player w (k + 1) hs rs))
+    (TestsDecide-append (set_tests player w k h r) (reply_tests player w (k + 1) hs rs) _ _ _ _ (set_described player w k h r)
+    (sets_described player w (k + 1) hs rs))
     (λ p. all_next player w h hs r rs p.0 p.1, λ t. (t 0, λ j. t (suc j)))
     (λ f. (⊎_elim (at_first player w k h hs r rs f) (λ c. shifted player w k h hs r rs f c.0 c.1), either player w k h hs r rs f))
 
@@ -301,7 +350,8 @@ total_decided sums sets reply traced bound scale =
     (λ p. record { worth_is = p.0; traced_is = p.1.0; bound_is = p.1.1 }) (λ h. (h.worth_is, (h.traced_is, h.bound_is)))
     (Decides-and (int_eq reply.total (total sums sets reply.sets)) (int_eq reply.total traced && is_same_fraction bound (fraction_of reply.total scale))
     (Decides-int_eq reply.total (total sums sets reply.sets))
-    (Decides-and (int_eq reply.total traced) (is_same_fraction bound (fraction_of reply.total scale)) (Decides-int_eq reply.total traced) (same_fraction bound (fraction_of reply.total scale))))
+    (Decides-and (int_eq reply.total traced) (is_same_fraction bound (fraction_of reply.total scale)) (Decides-int_eq reply.total traced)
+    (same_fraction bound (fraction_of reply.total scale))))
 
 total_caused : (player : Player) (sums : ℕ → ℤ) (sets : List InformationSet) (reply : Reply) (traced : ℤ)
     (bound : Fraction) (scale : ℕ) (f : TestFault)
@@ -317,21 +367,30 @@ total_caused player sums sets reply traced bound scale SecondDiffers c = absurd 
 
 total_described : (player : Player) (sums : ℕ → ℤ) (sets : List InformationSet) (reply : Reply) (traced : ℤ)
     (bound : Fraction) (scale : ℕ)
-    → TestsDecide (total_test player sums sets reply traced bound scale ∷ []) (HoldsAsTotal sums sets reply traced bound scale) (TotalFault player sums sets reply traced bound scale)
+    → TestsDecide (total_test player sums sets reply traced bound scale ∷ []) (HoldsAsTotal sums sets reply traced bound scale)
+    (TotalFault player sums sets reply traced bound scale)
 total_described player sums sets reply traced bound scale =
     TestsDecide-like (total_test player sums sets reply traced bound scale ∷ []) _ _ _ (TotalFault player sums sets reply traced bound scale)
-    (TestsDecide-one _ (TotalDiffers (end_shown_by player)) (HoldsAsTotal sums sets reply traced bound scale) (total_decided sums sets reply traced bound scale))
+    (TestsDecide-one _ (TotalDiffers (end_shown_by player)) (HoldsAsTotal sums sets reply traced bound scale)
+    (total_decided sums sets reply traced bound scale))
     (λ h. h, λ h. h)
     (λ f. (λ c. subst (TotalFault player sums sets reply traced bound scale) (sym c.0) (refl, c.1), total_caused player sums sets reply traced bound scale f))
 
 -- a reply's tests pass exactly where it is tight and its total holds, else the fault has what fails first
 pub reply_described : (player : Player) (sums : ℕ → ℤ) (sets : List InformationSet) (reply : Reply) (traced : ℤ)
     (bound : Fraction) (scale : ℕ)
-    → TestsDecide (whole_reply_tests player sums sets reply traced bound scale) (HoldsAsReply player sums sets reply traced bound scale) (ReplyFault player sums sets reply traced bound scale)
+    → TestsDecide (whole_reply_tests player sums sets reply traced bound scale) (HoldsAsReply player sums sets reply traced bound scale)
+    (ReplyFault player sums sets reply traced bound scale)
 reply_described player sums sets reply traced bound scale =
     let w : ℕ → ℤ = worth sums (placed sets) (values_of reply.sets) in
-    TestsDecide-like (whole_reply_tests player sums sets reply traced bound scale) _ (HoldsAsReply player sums sets reply traced bound scale) _ (ReplyFault player sums sets reply traced bound scale)
+    TestsDecide-like (whole_reply_tests player sums sets reply traced bound scale) _ (HoldsAsReply player sums sets reply traced bound scale) _
+    (ReplyFault player sums sets reply traced bound scale)
     (TestsDecide-append (reply_tests player w 1 (placed sets) reply.sets) (total_test player sums sets reply traced bound scale ∷ []) _ _ _ _
-    (sets_described player w 1 (placed sets) reply.sets) (total_described player sums sets reply traced bound scale))
-    (λ p. record { tight = tight_zip player w (placed sets) reply.sets p.0; total_is = p.1 }, λ h. (zip_tight player w (placed sets) reply.sets h.tight, h.total_is))
-    (λ f. (⊎_elim inl (λ c. inr (tight_zip player w (placed sets) reply.sets c.0, c.1)), ⊎_elim inl (λ c. inr (zip_tight player w (placed sets) reply.sets c.0, c.1))))
+    (sets_described player w 1 (placed sets) reply.sets) (total_described player sums sets reply traced bound scale)) (
+      λ p. record { tight = tight_zip player w (placed sets) reply.sets p.0; total_is = p.1 },
+      λ h. (zip_tight player w (placed sets) reply.sets h.tight, h.total_is),
+    )
+    (λ f. (
+      ⊎_elim inl (λ c. inr (tight_zip player w (placed sets) reply.sets c.0, c.1)),
+      ⊎_elim inl (λ c. inr (zip_tight player w (placed sets) reply.sets c.0, c.1)),
+    ))

@@ -36,8 +36,10 @@ shown_where_they_hold weight game scale b order_one order_two some_unit h =
     let y : List ℕ = printed_numbers b.plan_two in
     let lower = h.reply_two in
     let upper = h.reply_one in
-    let floor : IsFloor game.form x b.reply_two.total = subst (IsFloor game.form x) (sym lower.total_is.worth_is) (tight_bounds.floor game.form x b.reply_two.sets order_two lower.tight) in
-    let ceiling : IsCeiling game.form y b.reply_one.total = subst (IsCeiling game.form y) (sym upper.total_is.worth_is) (tight_bounds.ceiling game.form y b.reply_one.sets order_one upper.tight) in
+    let floor : IsFloor game.form x b.reply_two.total = subst (IsFloor game.form x) (sym lower.total_is.worth_is)
+    (tight_bounds.floor game.form x b.reply_two.sets order_two lower.tight) in
+    let ceiling : IsCeiling game.form y b.reply_one.total = subst (IsCeiling game.form y) (sym upper.total_is.worth_is)
+    (tight_bounds.ceiling game.form y b.reply_one.sets order_one upper.tight) in
     let at_low = total_over b.low b.reply_two.total (game.unit * b.plan_one.root) (mul-pos some_unit h.plan_one.is_plan.some_root) lower.total_is.bound_is in
     let at_high = total_over b.high b.reply_one.total (game.unit * b.plan_two.root) (mul-pos some_unit h.plan_two.is_plan.some_root) upper.total_is.bound_is in
     record {
@@ -51,9 +53,11 @@ shown_where_they_hold weight game scale b order_one order_two some_unit h =
           (tight_bounds.ceiling_attained game.form y b.reply_one.sets order_one upper.tight);
       low = at_low;
       high = at_high;
-      gets = λ root plan is. subst (λ (z : ℤ). z ≤ℤ (pay game.form.leaves x plan *ℤ pos b.low.den)) (sym (scaled b.low b.reply_two.total (game.unit * b.plan_one.root) root at_low.value))
+      gets = λ root plan is. subst (λ (z : ℤ). z ≤ℤ (pay game.form.leaves x plan *ℤ pos b.low.den))
+          (sym (scaled b.low b.reply_two.total (game.unit * b.plan_one.root) root at_low.value))
           (*ℤ-mono_right b.low.den (pos root *ℤ b.reply_two.total) (pay game.form.leaves x plan) (floor root plan is));
-      concedes = λ root plan is. subst (λ (z : ℤ). (pay game.form.leaves plan y *ℤ pos b.high.den) ≤ℤ z) (sym (scaled b.high b.reply_one.total (game.unit * b.plan_two.root) root at_high.value))
+      concedes = λ root plan is. subst (λ (z : ℤ). (pay game.form.leaves plan y *ℤ pos b.high.den) ≤ℤ z)
+          (sym (scaled b.high b.reply_one.total (game.unit * b.plan_two.root) root at_high.value))
           (*ℤ-mono_right b.high.den (pay game.form.leaves plan y) (pos root *ℤ b.reply_one.total) (ceiling root plan is));
       traced_low = lower.total_is.traced_is;
       traced_high = upper.total_is.traced_is;

@@ -1,5 +1,6 @@
 -- Sizes of what a checker sums.
-use Rattle.std.proofs.Common.{◌≡◌, ℕ, ◌*◌, ◌^◌, ◌≤◌, ◌↔◌, List, [], ◌∷◌, filter, zip, length, get_or, slice_index, Option, Some, None, Ok, Bool, true, false, cond, All, ℤ, pos, ◌*ℤ◌, unsigned_abs, eqb, refl, ap, ◌∙◌, arith}
+use Rattle.std.proofs.Common.{◌≡◌, ℕ, ◌*◌, ◌^◌, ◌≤◌, ◌↔◌, List, [], ◌∷◌, filter, zip, length, get_or, slice_index, Option, Some, None, Ok, Bool, true, false}
+use Rattle.std.proofs.Common.{cond, All, ℤ, pos, ◌*ℤ◌, unsigned_abs, eqb, refl, ap, ◌∙◌, arith}
 use Rattle.std.proofs.lemmas.Int.{unsigned_abs-mul}
 use Rattle.std.proofs.lemmas.Nat.{mul-le}
 use Rattle.std.proofs.lemmas.List.Elements.{All-append, All-cons, All-nil, All-head, All-tail}
@@ -32,8 +33,18 @@ trace_products head lines j k line fits trace low_j low_k =
     let fa = trace.each j line low_j in
     let fb = trace.each k line low_k in
     record {
-      low = omega (arith, product_size a.low b.low_round, mul-le (unsigned_abs a.low) b.low_round (2 ^ 100) (2 ^ 16) fa.low (omega (arith, fb.low_round.1, fb.round, fits.rounds)));
-      high = omega (arith, product_size a.high b.high_round, mul-le (unsigned_abs a.high) b.high_round (2 ^ 100) (2 ^ 16) fa.high (omega (arith, fb.high_round.1, fb.round, fits.rounds)));
+      low = omega (
+        arith,
+        product_size a.low b.low_round,
+        mul-le (unsigned_abs a.low) b.low_round (2 ^ 100) (2 ^ 16) fa.low
+            (omega (arith, fb.low_round.1, fb.round, fits.rounds)),
+      );
+      high = omega (
+        arith,
+        product_size a.high b.high_round,
+        mul-le (unsigned_abs a.high) b.high_round (2 ^ 100) (2 ^ 16) fa.high
+            (omega (arith, fb.high_round.1, fb.round, fits.rounds)),
+      );
     }
 
 set_sum : (ws : List ℕ) → PlanWeightsFit ws → nat_sum_over (λ n. n) ws ≤ 2 ^ 46
@@ -41,7 +52,8 @@ set_sum ws f = omega (arith, nat_sum_over-bounded (λ n. n) (2 ^ 36) ws f.each, 
 
 all_sets : (wss : List (List ℕ)) → All PlanWeightsFit wss → All (λ ws. nat_sum_over (λ n. n) ws ≤ 2 ^ 46) wss
 all_sets [] f = All-nil (λ ws. nat_sum_over (λ n. n) ws ≤ 2 ^ 46)
-all_sets (ws ∷ wss) f = All-cons (λ ws. nat_sum_over (λ n. n) ws ≤ 2 ^ 46) ws wss (set_sum ws (All-head PlanWeightsFit ws wss f)) (all_sets wss (All-tail PlanWeightsFit ws wss f))
+all_sets (ws ∷ wss) f = All-cons (λ ws. nat_sum_over (λ n. n) ws ≤ 2 ^ 46) ws wss (set_sum ws (All-head PlanWeightsFit ws wss f))
+    (all_sets wss (All-tail PlanWeightsFit ws wss f))
 
 -- a set's printed numbers sum to at most 2 ^ 46, and the unit times the root is at most 2 ^ 98
 pub plan_sums : PlanSumsAreSmall
@@ -53,7 +65,8 @@ plan_sums unit sets plan small fits = record {
 -- ---- worths
 joined_small : (wss : List (List ℕ)) → All PlanWeightsFit wss → All (λ n. n ≤ 2 ^ 36) (joined wss)
 joined_small [] f = All-nil (λ n. n ≤ 2 ^ 36)
-joined_small (ws ∷ wss) f = All-append (λ n. n ≤ 2 ^ 36) ws (joined wss) (All-head PlanWeightsFit ws wss f).each (joined_small wss (All-tail PlanWeightsFit ws wss f))
+joined_small (ws ∷ wss) f = All-append (λ n. n ≤ 2 ^ 36) ws (joined wss) (All-head PlanWeightsFit ws wss f).each
+    (joined_small wss (All-tail PlanWeightsFit ws wss f))
 
 each_of : {A : Type 0} (P : A → Type 0) (xs : List A) → ((x : A) → P x) → All P xs
 each_of P [] h = All-nil P
@@ -71,7 +84,8 @@ some_of f p xs =
       arith,
       ap unsigned_abs (sum_over-filter f p xs),
       unsigned_abs-sum_over (λ x. cond (p x) (f x) (pos 0)) xs,
-      nat_sum_over-mono (λ x. unsigned_abs (cond (p x) (f x) (pos 0))) (λ x. unsigned_abs (f x)) xs (each_of (λ x. unsigned_abs (cond (p x) (f x) (pos 0)) ≤ unsigned_abs (f x)) xs (λ x. kept (p x) (f x))),
+      nat_sum_over-mono (λ x. unsigned_abs (cond (p x) (f x) (pos 0))) (λ x. unsigned_abs (f x)) xs
+          (each_of (λ x. unsigned_abs (cond (p x) (f x) (pos 0)) ≤ unsigned_abs (f x)) xs (λ x. kept (p x) (f x))),
     )
 
 zipped : (hs : List PlacedSet) (rs : List SetReply)
@@ -86,7 +100,8 @@ one_leaf player xs small z =
     omega (
       arith,
       product_size z.weight (slice_index xs (leaf_sequence (opponent player) z)),
-      mul-le (unsigned_abs z.weight) (slice_index xs (leaf_sequence (opponent player) z)) (unsigned_abs z.weight) (2 ^ 36) (omega arith) (small (leaf_sequence (opponent player) z)),
+      mul-le (unsigned_abs z.weight) (slice_index xs (leaf_sequence (opponent player) z)) (unsigned_abs z.weight) (2 ^ 36) (omega arith)
+          (small (leaf_sequence (opponent player) z)),
     )
 
 all_leaves : (player : Player) (leaves : List Leaf) (xs : List ℕ) → ((s : ℕ) → slice_index xs s ≤ 2 ^ 36)
@@ -96,7 +111,8 @@ all_leaves player leaves xs small light =
     omega (
       arith,
       nat_sum_over-mono (λ z. unsigned_abs (z.weight *ℤ pos (slice_index xs (leaf_sequence (opponent player) z)))) (λ z. unsigned_abs z.weight * 2 ^ 36) leaves
-          (each_of (λ z. unsigned_abs (z.weight *ℤ pos (slice_index xs (leaf_sequence (opponent player) z))) ≤ unsigned_abs z.weight * 2 ^ 36) leaves (one_leaf player xs small)),
+          (each_of (λ z. unsigned_abs (z.weight *ℤ pos (slice_index xs (leaf_sequence (opponent player) z))) ≤ unsigned_abs z.weight * 2 ^ 36) leaves
+          (one_leaf player xs small)),
       nat_sum_over-factor (2 ^ 36) (λ (z : Leaf). unsigned_abs z.weight) leaves,
       mul-le (mass_of leaves) (2 ^ 36) (2 ^ 62) (2 ^ 36) light (omega arith),
     )
@@ -104,13 +120,18 @@ all_leaves player leaves xs small light =
 all_values : (sets : ℕ) (reply : Reply) → sets ≤ 2 ^ 20 → ReplyFits sets reply
     → nat_sum_over (λ r. unsigned_abs r.value) reply.sets ≤ 2 ^ 120
 all_values sets reply few fits =
-    omega (arith, nat_sum_over-bounded (λ r. unsigned_abs r.value) (2 ^ 100) reply.sets fits.values, mul-le (length reply.sets) (2 ^ 100) (2 ^ 20) (2 ^ 100) (omega (arith, fits.count)) (omega arith))
+    omega (
+      arith,
+      nat_sum_over-bounded (λ r. unsigned_abs r.value) (2 ^ 100) reply.sets fits.values,
+      mul-le (length reply.sets) (2 ^ 100) (2 ^ 20) (2 ^ 100) (omega (arith, fits.count)) (omega arith),
+    )
 
 -- within the ranges, leaf products sum to at most 2 ^ 98, values to 2 ^ 120, and a worth is at most 2 ^ 121
 pub worths : WorthsAreSmall
 worths player leaves sets plan_sets reply_sets plan reply light fits few fit =
     let xs : List ℕ = printed_numbers plan in
-    let small : (s : ℕ) → slice_index xs s ≤ 2 ^ 36 = slice_index-at_most (2 ^ 36) xs (All-cons (λ n. n ≤ 2 ^ 36) plan.root (joined plan.weights) fits.root.1 (joined_small plan.weights fits.each)) in
+    let small : (s : ℕ) → slice_index xs s ≤ 2 ^ 36 = slice_index-at_most (2 ^ 36) xs
+    (All-cons (λ n. n ≤ 2 ^ 36) plan.root (joined plan.weights) fits.root.1 (joined_small plan.weights fits.each)) in
     let of_leaves = all_leaves player leaves xs small light in
     let of_values = all_values reply_sets reply few fit in
     record {

@@ -8,7 +8,8 @@ use Rattle.def_plan.specs.Payoff.{leaf_sum}
 use Rattle.def_cert_verdict.specs.declared.fault.TestFault.{TestFault}
 use Rattle.def_cert_verdict.specs.Certificate.{PrintedBounds, Certificate, printed_numbers, last_line}
 use Rattle.def_plan.specs.Weighed.{WeighedGame}
-use Rattle.def_cert_verdict.specs.Verdict.{Verdict, head_only, bracket, first_failing, head_tests, plan_tests, whole_reply_tests, trace_tests, first_trace_line, bounds_tests, tests_below_head, tests, shown_by, decided_by}
+use Rattle.def_cert_verdict.specs.Verdict.{Verdict, head_only, bracket, first_failing, head_tests, plan_tests, whole_reply_tests, trace_tests, first_trace_line}
+use Rattle.def_cert_verdict.specs.Verdict.{bounds_tests, tests_below_head, tests, shown_by, decided_by}
 use Rattle.def_cert_verdict.specs.Laws.{IsHeadOf, HoldsUp, AcceptanceIsExact, with_bounds, without_bounds}
 use Rattle.def_cert_verdict.specs.FaultCauses.{HeadFault, BoundsFault, FaultBelowHead, EachFaultHasItsCause}
 use Rattle.def_cert_verdict.proofs.TestsDecide.{TestsDecide, TestsDecide-append, TestsDecide-like}
@@ -25,11 +26,14 @@ bounds_described game first scale b =
     let sums_two : ℕ → ℤ = leaf_sum Two form.leaves (printed_numbers b.plan_one) in
     let sums_one : ℕ → ℤ = leaf_sum One form.leaves (printed_numbers b.plan_two) in
     TestsDecide-like (bounds_tests game first scale b) _ (HoldsUp game scale b) _ (BoundsFault game first scale b)
-    (TestsDecide-append (plan_tests One form.sets_one (last.low_round * scale) b.plan_one) _ _ _ _ _ (plan_described One form.sets_one (last.low_round * scale) b.plan_one)
-    (TestsDecide-append (plan_tests Two form.sets_two (last.high_round * scale) b.plan_two) _ _ _ _ _ (plan_described Two form.sets_two (last.high_round * scale) b.plan_two)
+    (TestsDecide-append (plan_tests One form.sets_one (last.low_round * scale) b.plan_one) _ _ _ _ _
+    (plan_described One form.sets_one (last.low_round * scale) b.plan_one)
+    (TestsDecide-append (plan_tests Two form.sets_two (last.high_round * scale) b.plan_two) _ _ _ _ _
+    (plan_described Two form.sets_two (last.high_round * scale) b.plan_two)
     (TestsDecide-append (whole_reply_tests Two sums_two form.sets_two b.reply_two last.low b.low (game.unit * b.plan_one.root)) _ _ _ _ _
     (reply_described Two sums_two form.sets_two b.reply_two last.low b.low (game.unit * b.plan_one.root))
-    (TestsDecide-append (whole_reply_tests One sums_one form.sets_one b.reply_one last.high b.high (game.unit * b.plan_two.root)) (trace_tests first b.trace) _ _ _ _
+    (TestsDecide-append (whole_reply_tests One sums_one form.sets_one b.reply_one last.high b.high (game.unit * b.plan_two.root)) (trace_tests first b.trace) _
+    _ _ _
     (reply_described One sums_one form.sets_one b.reply_one last.high b.high (game.unit * b.plan_two.root)) (trace_described first b.trace))))) (
       λ h. record { plan_one = h.0; plan_two = h.1.0; reply_two = h.1.1.0; reply_one = h.1.1.1.0; trace = h.1.1.1.1 },
       λ h. (h.plan_one, (h.plan_two, (h.reply_two, (h.reply_one, h.trace)))),
@@ -127,7 +131,8 @@ exact = record {
     λ e. let a = accepted_by c.bounds (first_failing (tests game c)) (bracket low high) e in
         let h = (whole game c).none.0 a.0 in
         (h.0, h.1, same_low low high b.low b.high a.1, same_high low high b.low b.high a.1),
-    λ h. ap (decided_by c.bounds) ((whole game c).none.1 (h.0, h.1)) ∙ ap (λ (l : Fraction). Ok (bracket l b.high)) (sym h.2) ∙ ap (λ (k : Fraction). Ok (bracket low k)) (sym h.3),
+    λ h. ap (decided_by c.bounds) ((whole game c).none.1 (h.0, h.1)) ∙ ap (λ (l : Fraction). Ok (bracket l b.high)) (sym h.2)
+        ∙ ap (λ (k : Fraction). Ok (bracket low k)) (sym h.3),
   );
   not_head_alone = λ game head b e. let c = with_bounds head b in
       head_bracket b.low b.high (accepted_by c.bounds (first_failing (tests game c)) head_only e).1;

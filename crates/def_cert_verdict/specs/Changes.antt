@@ -9,7 +9,13 @@ abbrev pub said : ℤ → ℕ → SetReply
 said value choice = record { value = value; choice = choice }
 
 abbrev pub traced : ℕ → ℕ → ℤ → ℕ → ℤ → TraceLine
-traced round low_round low high_round high = record { round = round; low_round = low_round; low = low; high_round = high_round; high = high }
+traced round low_round low high_round high = record {
+  round = round;
+  low_round = low_round;
+  low = low;
+  high_round = high_round;
+  high = high;
+}
 
 pub data Change : Type 0 where
   line : ℕ → TraceLine → Change

@@ -1,5 +1,6 @@
 -- When each fault comes, in words: stage by stage, where all stages before hold. Places in lists count from 0.
-use Rattle.std.specs.Prelude.{◌≡◌, ℕ, ◌+◌, ◌*◌, ◌≤◌, ◌<◌, ◌⊎◌, ◌↔◌, List, length, slice_get, slice_index_or, ℤ, Option, Some, None, Err}
+use Rattle.std.specs.Prelude.{◌≡◌, ℕ, ◌+◌, ◌*◌, ◌≤◌, ◌<◌, ◌⊎◌, ◌↔◌, List, length, slice_get, slice_index_or, ℤ, Option}
+use Rattle.std.specs.Prelude.{Some, None, Err}
 use Rattle.std.specs.Option.{option_map}
 use Rattle.def_tree.specs.declared.Player.{Player}
 use Rattle.def_tree.specs.declared.Player.TheVariants.{One, Two}
@@ -12,7 +13,8 @@ use Rattle.def_reply.specs.Bracket.{LiesWithin}
 use Rattle.def_reply.specs.declared.TraceLine.{TraceLine}
 use Rattle.def_reply.specs.Outcome.{Head}
 use Rattle.def_cert_verdict.specs.declared.fault.TestFault.{TestFault}
-use Rattle.def_cert_verdict.specs.declared.fault.TestFault.TheVariants.{HeadDiffers, NotAPlan, ValueTooGood, ReplyNotTight, TotalDiffers, TraceWidens}
+use Rattle.def_cert_verdict.specs.declared.fault.TestFault.TheVariants.{HeadDiffers, NotAPlan, ValueTooGood}
+use Rattle.def_cert_verdict.specs.declared.fault.TestFault.TheVariants.{ReplyNotTight, TotalDiffers, TraceWidens}
 use Rattle.def_cert_verdict.specs.Certificate.{PrintedPlan, PrintedBounds, Certificate, printed_numbers, last_line}
 use Rattle.def_plan.specs.Weighed.{WeighedGame}
 use Rattle.def_cert_verdict.specs.Verdict.{end_shown_by, first_trace_line, verdict}
@@ -73,7 +75,8 @@ ReachedAt w (Some h) None = ⊥
 ReachedAt w None (Some r) = ⊥
 
 abbrev pub TightAt : Player → (ℕ → ℤ) → List PlacedSet → List SetReply → ℕ → Type 0
-TightAt player w hs rs k = NoActionBetterAt player w (slice_get hs k) (slice_get rs k) × ReachedAt w (slice_get hs k) (slice_get rs k)
+TightAt player w hs rs k = NoActionBetterAt player w (slice_get hs k) (slice_get rs k)
+    × ReachedAt w (slice_get hs k) (slice_get rs k)
 
 -- the sets before it are tight, and this action is the first that is better than the value
 pub record IsTooGood (player : Player) (w : ℕ → ℤ) (hs : List PlacedSet) (rs : List SetReply) (k i : ℕ) : Type 0 where
@@ -91,12 +94,15 @@ pub record IsNotReached (player : Player) (w : ℕ → ℤ) (hs : List PlacedSet
   pub not_reached : ¬ (ReachedAt w (slice_get hs k) (slice_get rs k))
 
 abbrev pub SetFault : Player → (ℕ → ℤ) → ℕ → List PlacedSet → List SetReply → TestFault → Type 0
-SetFault player w first hs rs (ValueTooGood p set action) = (p ≡ player) × ((k : ℕ) × (i : ℕ) × (set ≡ first + k) × (action ≡ 1 + i) × IsTooGood player w hs rs k i)
-SetFault player w first hs rs (ReplyNotTight p set) = (p ≡ player) × ((k : ℕ) × (set ≡ first + k) × IsNotReached player w hs rs k)
+SetFault player w first hs rs (ValueTooGood p set action) = (p ≡ player)
+    × ((k : ℕ) × (i : ℕ) × (set ≡ first + k) × (action ≡ 1 + i) × IsTooGood player w hs rs k i)
+SetFault player w first hs rs (ReplyNotTight p set) = (p ≡ player)
+    × ((k : ℕ) × (set ≡ first + k) × IsNotReached player w hs rs k)
 SetFault player w first hs rs fault = ⊥
 
 abbrev pub TotalFault : Player → (ℕ → ℤ) → List InformationSet → Reply → ℤ → Fraction → ℕ → TestFault → Type 0
-TotalFault player sums sets reply traced bound scale (TotalDiffers end) = (end ≡ end_shown_by player) × (¬ (HoldsAsTotal sums sets reply traced bound scale))
+TotalFault player sums sets reply traced bound scale (TotalDiffers end) = (end ≡ end_shown_by player)
+    × (¬ (HoldsAsTotal sums sets reply traced bound scale))
 TotalFault player sums sets reply traced bound scale fault = ⊥
 
 -- a set's fault, or where all sets are tight that of the total
@@ -107,7 +113,8 @@ ReplyFault player sums sets reply traced bound scale fault =
 
 -- ---- the trace: the line behind a place isn't wider
 abbrev pub IsNoWider : List TraceLine → ℕ → Type 0
-IsNoWider lines k = (line : TraceLine) → k + 1 < length lines → LiesWithin (slice_index_or lines (k + 1) line) (slice_index_or lines k line)
+IsNoWider lines k = (line : TraceLine) → k + 1 < length lines
+    → LiesWithin (slice_index_or lines (k + 1) line) (slice_index_or lines k line)
 
 abbrev pub TraceFault : ℕ → List TraceLine → TestFault → Type 0
 TraceFault first lines (TraceWidens line) = (k : ℕ) × (line ≡ first + k + 1) × IsFirstNot (IsNoWider lines) k
@@ -137,4 +144,5 @@ FaultBelowHead game first scale (Some b) fault = BoundsFault game first scale b 
 -- a certificate is refused with a fault exactly where it comes: in the head, or where that is the game's in the bounds
 abbrev pub EachFaultHasItsCause : Type 0
 EachFaultHasItsCause = (game : WeighedGame) (c : Certificate) (fault : TestFault)
-    → (verdict game c ≡ Err fault) ↔ (HeadFault game c.head fault ⊎ (IsHeadOf game c.head × FaultBelowHead game first_trace_line c.head.scale c.bounds fault))
+    → (verdict game c ≡ Err fault) ↔ (HeadFault game c.head fault
+    ⊎ (IsHeadOf game c.head × FaultBelowHead game first_trace_line c.head.scale c.bounds fault))

@@ -31,9 +31,14 @@ hidden_head = record {
 
 abbrev pub hidden_bounds : PrintedBounds
 hidden_bounds = record {
-  trace = traced 1 1 (negative_of 26) 1 (pos 7) ∷ traced 2 1 (negative_of 26) 2 (pos 8) ∷ traced 3 3 (negative_of 66) 2 (pos 8) ∷ traced 4 3 (negative_of 66) 2 (pos 8) ∷ [];
+  trace = traced 1 1 (negative_of 26) 1 (pos 7) ∷ traced 2 1 (negative_of 26) 2 (pos 8)
+      ∷ traced 3 3 (negative_of 66) 2 (pos 8) ∷ traced 4 3 (negative_of 66) 2 (pos 8) ∷ [];
   plan_one = record { root = 30; weights = (12 ∷ 6 ∷ 12 ∷ []) ∷ (1 ∷ 11 ∷ []) ∷ (1 ∷ 5 ∷ []) ∷ [] };
-  reply_two = record { total = negative_of 66; sets = said (negative_of 66) 1 ∷ said (negative_of 36) 2 ∷ said (negative_of 30) 1 ∷ [] };
+  reply_two = record {
+    total = negative_of 66;
+    sets = said (negative_of 66) 1 ∷ said (negative_of 36) 2
+        ∷ said (negative_of 30) 1 ∷ [];
+  };
   plan_two = record { root = 20; weights = (3 ∷ 3 ∷ 14 ∷ []) ∷ (1 ∷ 2 ∷ []) ∷ (1 ∷ 2 ∷ []) ∷ [] };
   reply_one = record { total = pos 8; sets = said (pos 8) 3 ∷ said (negative_of 6) 2 ∷ said (negative_of 2) 2 ∷ [] };
   low = over (negative_of 11) 15;

@@ -41,12 +41,14 @@ kuhn_bounds = record {
   plan_one = record { root = 1048576; weights = halves ∷ quarters ∷ halves ∷ quarters ∷ halves ∷ quarters ∷ [] };
   reply_two = record {
     total = negative_of 2621440;
-    sets = said (negative_of 524288) 2 ∷ said (pos 0) 2 ∷ said (negative_of 1572864) 2 ∷ said (negative_of 2097152) 2 ∷ said (pos 524288) 2 ∷ said (pos 1048576) 1 ∷ [];
+    sets = said (negative_of 524288) 2 ∷ said (pos 0) 2 ∷ said (negative_of 1572864) 2 ∷ said (negative_of 2097152) 2
+        ∷ said (pos 524288) 2 ∷ said (pos 1048576) 1 ∷ [];
   };
   plan_two = record { root = 1048576; weights = halves ∷ halves ∷ halves ∷ halves ∷ halves ∷ halves ∷ [] };
   reply_one = record {
     total = pos 3145728;
-    sets = said (negative_of 1048576) 2 ∷ said (negative_of 1048576) 1 ∷ said (pos 1048576) 2 ∷ said (pos 0) 2 ∷ said (pos 3145728) 1 ∷ said (pos 2097152) 2 ∷ [];
+    sets = said (negative_of 1048576) 2 ∷ said (negative_of 1048576) 1 ∷ said (pos 1048576) 2 ∷ said (pos 0) 2
+        ∷ said (pos 3145728) 1 ∷ said (pos 2097152) 2 ∷ [];
   };
   low = over (negative_of 5) 12;
   high = over (pos 1) 2;

@@ -1,5 +1,6 @@
 -- What an accepted certificate shows, whoever wrote it. Each law is the contract of a function of this crate.
-use Rattle.std.specs.Prelude.{◌≡◌, ℕ, ◌+◌, ◌*◌, ◌≤◌, ◌<◌, ◌↔◌, List, length, take, slice_index_or, All, ℤ, pos, ◌*ℤ◌, ◌≤ℤ◌, Option, Some, None, Ok}
+use Rattle.std.specs.Prelude.{◌≡◌, ℕ, ◌+◌, ◌*◌, ◌≤◌, ◌<◌, ◌↔◌, List, length, take, slice_index_or, All, ℤ, pos, ◌*ℤ◌}
+use Rattle.std.specs.Prelude.{◌≤ℤ◌, Option, Some, None, Ok}
 use Rattle.std.specs.List.{AllZip}
 use Rattle.def_tree.specs.declared.Player.{Player}
 use Rattle.def_tree.specs.declared.Player.TheVariants.{One, Two}
@@ -77,8 +78,10 @@ NeverWidens lines = NeverWidensBy (λ round. round) lines
 pub record HoldsUpBy (weight : ℕ → ℕ) (game : WeighedGame) (scale : ℕ) (b : PrintedBounds) : Type 0 where
   pub plan_one : HoldsAsPlan game.form.sets_one (weight (last_line b.trace).low_round * scale) b.plan_one
   pub plan_two : HoldsAsPlan game.form.sets_two (weight (last_line b.trace).high_round * scale) b.plan_two
-  pub reply_two : HoldsAsReply Two (leaf_sum Two game.form.leaves (printed_numbers b.plan_one)) game.form.sets_two b.reply_two (last_line b.trace).low b.low (game.unit * b.plan_one.root)
-  pub reply_one : HoldsAsReply One (leaf_sum One game.form.leaves (printed_numbers b.plan_two)) game.form.sets_one b.reply_one (last_line b.trace).high b.high (game.unit * b.plan_two.root)
+  pub reply_two : HoldsAsReply Two (leaf_sum Two game.form.leaves (printed_numbers b.plan_one)) game.form.sets_two
+      b.reply_two (last_line b.trace).low b.low (game.unit * b.plan_one.root)
+  pub reply_one : HoldsAsReply One (leaf_sum One game.form.leaves (printed_numbers b.plan_two)) game.form.sets_one
+      b.reply_one (last_line b.trace).high b.high (game.unit * b.plan_two.root)
   pub trace : NeverWidensBy weight b.trace
 
 -- of a certificate, whose rounds weigh 1 each
@@ -119,7 +122,8 @@ GetsAtLeast game root plan_one low = (root_two : ℕ) (plan_two : List ℕ) → 
 
 -- and player two's plan concedes at most `high` to every plan of player one
 abbrev pub ConcedesAtMost : WeighedGame → ℕ → List ℕ → Fraction → Type 0
-ConcedesAtMost game root plan_two high = (root_one : ℕ) (plan_one : List ℕ) → IsPlan game.form.sets_one root_one plan_one
+ConcedesAtMost game root plan_two high = (root_one : ℕ) (plan_one : List ℕ)
+    → IsPlan game.form.sets_one root_one plan_one
     → (pay game.form.leaves plan_one plan_two *ℤ pos high.den) ≤ℤ (high.num *ℤ pos (game.unit * root * root_one))
 
 -- both plans are plans, their totals are floor and ceiling, attained by the printed choices; LOW and HIGH are these
@@ -128,9 +132,11 @@ pub record ShowsItsBoundsBy (weight : ℕ → ℕ) (game : WeighedGame) (b : Pri
   pub plan_one : IsPlan game.form.sets_one b.plan_one.root (printed_numbers b.plan_one)
   pub plan_two : IsPlan game.form.sets_two b.plan_two.root (printed_numbers b.plan_two)
   pub floor : IsFloor game.form (printed_numbers b.plan_one) b.reply_two.total
-  pub floor_attained : AttainsFloor game.form (printed_numbers b.plan_one) b.reply_two.total (pure_plan game.form.sets_two (choices_of b.reply_two.sets))
+  pub floor_attained : AttainsFloor game.form (printed_numbers b.plan_one) b.reply_two.total
+      (pure_plan game.form.sets_two (choices_of b.reply_two.sets))
   pub ceiling : IsCeiling game.form (printed_numbers b.plan_two) b.reply_one.total
-  pub ceiling_attained : AttainsCeiling game.form (printed_numbers b.plan_two) b.reply_one.total (pure_plan game.form.sets_one (choices_of b.reply_one.sets))
+  pub ceiling_attained : AttainsCeiling game.form (printed_numbers b.plan_two) b.reply_one.total
+      (pure_plan game.form.sets_one (choices_of b.reply_one.sets))
   pub low : IsTotalOver b.low b.reply_two.total (game.unit * b.plan_one.root)
   pub high : IsTotalOver b.high b.reply_one.total (game.unit * b.plan_two.root)
   pub gets : GetsAtLeast game b.plan_one.root (printed_numbers b.plan_one) b.low

@@ -1,6 +1,7 @@
 -- What holds of certificates within their ranges, whoever wrote them.
 -- Each law is the contract of a function of this crate.
-use Rattle.std.specs.Prelude.{◌≡◌, ℕ, ◌*◌, ◌^◌, ◌≤◌, ◌<◌, ◌↔◌, List, length, slice_index, slice_index_or, All, pos, ◌*ℤ◌, unsigned_abs, Ok}
+use Rattle.std.specs.Prelude.{◌≡◌, ℕ, ◌*◌, ◌^◌, ◌≤◌, ◌<◌, ◌↔◌, List, length, slice_index, slice_index_or, All, pos}
+use Rattle.std.specs.Prelude.{◌*ℤ◌, unsigned_abs, Ok}
 use Rattle.def_tree.specs.declared.Player.{Player}
 use Rattle.def_tree.specs.Opponent.{opponent}
 use Rattle.def_sums.specs.Limits.{most_mass, most_root, most_row}
@@ -47,13 +48,16 @@ PlanSumsAreSmall = (unit sets : ℕ) (plan : PrintedPlan) → unit ≤ most → 
 -- and so each worth is at most 2^121 in size
 pub record SumsOfReply (player : Player) (leaves : List Leaf) (sets : List InformationSet) (plan : PrintedPlan)
     (reply : Reply) : Type 0 where
-  pub leaf_sums : nat_sum_over (λ z. unsigned_abs (z.weight *ℤ pos (slice_index (printed_numbers plan) (leaf_sequence (opponent player) z)))) leaves ≤ most_row
+  pub leaf_sums : nat_sum_over (λ z. unsigned_abs (z.weight
+      *ℤ pos (slice_index (printed_numbers plan) (leaf_sequence (opponent player) z)))) leaves ≤ most_row
   pub values : nat_sum_over (λ r. unsigned_abs r.value) reply.sets ≤ 2 ^ 120
   pub worths : (s : ℕ)
-      → unsigned_abs (worth (leaf_sum player leaves (printed_numbers plan)) (placed sets) (values_of reply.sets) s) ≤ 2 ^ 121
+      → unsigned_abs (worth (leaf_sum player leaves (printed_numbers plan)) (placed sets) (values_of reply.sets) s) ≤ 2
+      ^ 121
 
 -- where the mass is within its limit and a plan and a reply fit, the sums of the reply are small
 abbrev pub WorthsAreSmall : Type 0
-WorthsAreSmall = (player : Player) (leaves : List Leaf) (sets : List InformationSet) (plan_sets reply_sets : ℕ) (plan : PrintedPlan) (reply : Reply)
+WorthsAreSmall = (player : Player) (leaves : List Leaf) (sets : List InformationSet) (plan_sets reply_sets : ℕ)
+    (plan : PrintedPlan) (reply : Reply)
     → mass_of leaves ≤ most_mass → PlanFits plan_sets plan → reply_sets ≤ most_nodes → ReplyFits reply_sets reply
     → SumsOfReply player leaves sets plan reply

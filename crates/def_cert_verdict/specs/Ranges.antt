@@ -1,6 +1,7 @@
 -- The ranges of a certificate's numbers, which its text may not leave.
 -- Whoever wrote a certificate, one that is read is within them.
-use Rattle.std.specs.Prelude.{◌≡◌, ℕ, ◌+◌, ◌-◌, ◌*◌, ◌/◌, ◌≤◌, ◌<◌, min, List, length, slice_index_or, All, ℤ, unsigned_abs, Option, Some, None}
+use Rattle.std.specs.Prelude.{◌≡◌, ℕ, ◌+◌, ◌-◌, ◌*◌, ◌/◌, ◌≤◌, ◌<◌, min, List, length, slice_index_or, All, ℤ}
+use Rattle.std.specs.Prelude.{unsigned_abs, Option, Some, None}
 use Rattle.def_fraction.specs.Fraction.{Fraction, IsInLowestTerms, most}
 use Rattle.def_tree.specs.Rules.{most_actions, most_nodes}
 use Rattle.def_sums.specs.Limits.{most_mass, most_rounds, most_scale, most_root}

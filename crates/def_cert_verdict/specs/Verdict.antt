@@ -1,6 +1,7 @@
 -- The tests of a certificate in their order. A worth is a leaf sum plus the printed values of the sets directly after;
 -- no test takes a greatest or a least.
-use Rattle.std.specs.Prelude.{ℕ, ◌+◌, ◌*◌, ◌==◌, Bool, ◌&&◌, ◌||◌, nat_le, List, [], ◌∷◌, ◌++◌, map, length, ℤ, pos, ◌*ℤ◌, int_lt, Option, Some, None, Result, Ok, Err, if◌then◌else◌}
+use Rattle.std.specs.Prelude.{ℕ, ◌+◌, ◌*◌, ◌==◌, Bool, ◌&&◌, ◌||◌, nat_le, List, [], ◌∷◌, ◌++◌, map, length, ℤ, pos}
+use Rattle.std.specs.Prelude.{◌*ℤ◌, int_lt, Option, Some, None, Result, Ok, Err, if◌then◌else◌}
 use Rattle.std.specs.Ordering.{int_eq}
 use Rattle.std.specs.List.{range_with_len}
 use Rattle.def_tree.specs.declared.Player.{Player}
@@ -16,7 +17,8 @@ use Rattle.def_reply.specs.Outcome.{Head}
 use Rattle.def_cert_verdict.specs.declared.fault.Which.{Which}
 use Rattle.def_cert_verdict.specs.declared.fault.Which.TheVariants.{Lower, Upper}
 use Rattle.def_cert_verdict.specs.declared.fault.TestFault.{TestFault}
-use Rattle.def_cert_verdict.specs.declared.fault.TestFault.TheVariants.{HeadDiffers, NotAPlan, ValueTooGood, ReplyNotTight, TotalDiffers, TraceWidens}
+use Rattle.def_cert_verdict.specs.declared.fault.TestFault.TheVariants.{HeadDiffers, NotAPlan, ValueTooGood}
+use Rattle.def_cert_verdict.specs.declared.fault.TestFault.TheVariants.{ReplyNotTight, TotalDiffers, TraceWidens}
 use Rattle.def_cert_verdict.specs.Certificate.{PrintedPlan, PrintedBounds, Certificate, printed_numbers, last_line}
 
 -- what an accepted certificate shows: the bracket, or where no round was asked that its head is the game's
@@ -41,7 +43,8 @@ abbrev pub head_tests : WeighedGame → Head → List (Option TestFault)
 head_tests game head =
     unless (head.nodes == game.nodes && head.leaves == length game.form.leaves) (HeadDiffers 2)
     ∷ unless (head.sets_one == length game.form.sets_one && head.sets_two == length game.form.sets_two) (HeadDiffers 3)
-    ∷ unless (head.sequences_one == sequence_count game.form.sets_one && head.sequences_two == sequence_count game.form.sets_two) (HeadDiffers 4)
+    ∷ unless (head.sequences_one == sequence_count game.form.sets_one
+    && head.sequences_two == sequence_count game.form.sets_two) (HeadDiffers 4)
     ∷ unless (head.unit == game.unit && is_same_fraction head.sum game.sum) (HeadDiffers 5)
     ∷ unless (head.mass == mass_of game.form.leaves) (HeadDiffers 6)
     ∷ []
@@ -51,7 +54,8 @@ abbrev pub first_of_other_size : ℕ → List InformationSet → List (List ℕ)
 first_of_other_size k [] [] = None
 first_of_other_size k [] (ws ∷ wss) = Some k
 first_of_other_size k (h ∷ hs) [] = Some k
-first_of_other_size k (h ∷ hs) (ws ∷ wss) = if length ws == h.actions then first_of_other_size (k + 1) hs wss else Some k
+first_of_other_size k (h ∷ hs) (ws ∷ wss) = if length ws == h.actions then first_of_other_size (k + 1) hs wss else Some
+    k
 
 abbrev pub not_a_plan_at : Player → Option ℕ → Option TestFault
 not_a_plan_at player None = None
@@ -76,13 +80,15 @@ action_test player worth_of k h reply action =
 abbrev pub set_tests : Player → (ℕ → ℤ) → ℕ → PlacedSet → SetReply → List (Option TestFault)
 set_tests player worth_of k h reply =
     map (action_test player worth_of k h reply) (range_with_len 1 h.actions)
-    ++ unless ((nat_le 1 reply.choice && nat_le reply.choice h.actions) && int_eq (worth_of (chosen h reply.choice)) reply.value) (ReplyNotTight player k) ∷ []
+    ++ unless ((nat_le 1 reply.choice && nat_le reply.choice h.actions)
+    && int_eq (worth_of (chosen h reply.choice)) reply.value) (ReplyNotTight player k) ∷ []
 
 abbrev pub reply_tests : Player → (ℕ → ℤ) → ℕ → List PlacedSet → List SetReply → List (Option TestFault)
 reply_tests player worth_of k [] [] = []
 reply_tests player worth_of k [] (r ∷ rs) = Some (ReplyNotTight player k) ∷ []
 reply_tests player worth_of k (h ∷ hs) [] = Some (ReplyNotTight player k) ∷ []
-reply_tests player worth_of k (h ∷ hs) (r ∷ rs) = set_tests player worth_of k h r ++ reply_tests player worth_of (k + 1) hs rs
+reply_tests player worth_of k (h ∷ hs) (r ∷ rs) = set_tests player worth_of k h r
+    ++ reply_tests player worth_of (k + 1) hs rs
 
 -- ---- a total: it is the worth of the empty sequence, that of the last trace line,
 -- and over unit times root the printed bound
@@ -93,7 +99,8 @@ end_shown_by Two = Lower
 
 abbrev pub total_test : Player → (ℕ → ℤ) → List InformationSet → Reply → ℤ → Fraction → ℕ → Option TestFault
 total_test player sums sets reply traced bound scale =
-    unless (int_eq reply.total (total sums sets reply.sets) && (int_eq reply.total traced && is_same_fraction bound (fraction_of reply.total scale)))
+    unless (int_eq reply.total (total sums sets reply.sets)
+    && (int_eq reply.total traced && is_same_fraction bound (fraction_of reply.total scale)))
     (TotalDiffers (end_shown_by player))
 
 -- all tests of a reply, whose sets begin at 1
@@ -106,13 +113,15 @@ whole_reply_tests player sums sets reply traced bound scale =
 -- ---- the trace: no line is wider than the one before it
 abbrev pub is_wider : TraceLine → TraceLine → Bool
 is_wider later earlier =
-    int_lt (later.low *ℤ pos earlier.low_round) (earlier.low *ℤ pos later.low_round) || int_lt (earlier.high *ℤ pos later.high_round) (later.high *ℤ pos earlier.high_round)
+    int_lt (later.low *ℤ pos earlier.low_round) (earlier.low *ℤ pos later.low_round)
+    || int_lt (earlier.high *ℤ pos later.high_round) (later.high *ℤ pos earlier.high_round)
 
 -- the first line of the list has the number k
 abbrev pub trace_tests : ℕ → List TraceLine → List (Option TestFault)
 trace_tests k [] = []
 trace_tests k (a ∷ []) = []
-trace_tests k (a ∷ b ∷ lines) = (if is_wider b a then Some (TraceWidens (k + 1)) else None) ∷ trace_tests (k + 1) (b ∷ lines)
+trace_tests k (a ∷ b ∷ lines) = (if is_wider b a then Some (TraceWidens (k + 1)) else None)
+    ∷ trace_tests (k + 1) (b ∷ lines)
 
 -- seven lines stand before the trace
 abbrev pub first_trace_line : ℕ
@@ -125,8 +134,10 @@ bounds_tests game first scale b =
     let last = last_line b.trace in
     plan_tests One form.sets_one (last.low_round * scale) b.plan_one
     ++ (plan_tests Two form.sets_two (last.high_round * scale) b.plan_two
-    ++ (whole_reply_tests Two (leaf_sum Two form.leaves (printed_numbers b.plan_one)) form.sets_two b.reply_two last.low b.low (game.unit * b.plan_one.root)
-    ++ (whole_reply_tests One (leaf_sum One form.leaves (printed_numbers b.plan_two)) form.sets_one b.reply_one last.high b.high (game.unit * b.plan_two.root)
+    ++ (whole_reply_tests Two (leaf_sum Two form.leaves (printed_numbers b.plan_one)) form.sets_two b.reply_two last.low
+    b.low (game.unit * b.plan_one.root)
+    ++ (whole_reply_tests One (leaf_sum One form.leaves (printed_numbers b.plan_two)) form.sets_one b.reply_one
+    last.high b.high (game.unit * b.plan_two.root)
     ++ trace_tests first b.trace)))
 
 -- where no round was asked the tests end after the head

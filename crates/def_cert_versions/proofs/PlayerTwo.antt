@@ -94,13 +94,23 @@ module _ (game : GameFile) (is : IsFaultless game) where
 
     best_of_one : IsBestPayoff One (tables_of game) game.tree y b.high
     best_of_one =
-        let best : IsBestAgainst (form_of_game (tables_of game) game.tree) y b.reply_one.total = record { reply = pure_plan (form_of_game (tables_of game) game.tree).sets_one (choices_of b.reply_one.sets); ceiling = with.shows.ceiling; attained = with.shows.ceiling_attained } in
+        let best : IsBestAgainst (form_of_game (tables_of game) game.tree) y
+        b.reply_one.total = record {
+          reply = pure_plan (form_of_game (tables_of game) game.tree).sets_one (choices_of b.reply_one.sets);
+          ceiling = with.shows.ceiling;
+          attained = with.shows.ceiling_attained;
+        } in
         subst (IsBestPayoff One (tables_of game) game.tree y) (sym with.holds.reply_one.total_is.bound_is)
         (best_payoffs.one (tables_of game) game.tree constant.complete b.plan_two.root y with.shows.plan_two b.reply_one.total best)
 
     best_of_two : IsBestPayoff Two (tables_of game) game.tree x (rest b.low)
     best_of_two =
-        let left : IsLeft (form_of_game (tables_of game) game.tree) x b.reply_two.total = record { reply = pure_plan (form_of_game (tables_of game) game.tree).sets_two (choices_of b.reply_two.sets); floor = with.shows.floor; attained = with.shows.floor_attained } in
+        let left : IsLeft (form_of_game (tables_of game) game.tree) x b.reply_two.total = record {
+          reply = pure_plan
+              (form_of_game (tables_of game) game.tree).sets_two (choices_of b.reply_two.sets);
+          floor = with.shows.floor;
+          attained = with.shows.floor_attained;
+        } in
         subst (λ f. IsBestPayoff Two (tables_of game) game.tree x (rest f)) (sym with.holds.reply_two.total_is.bound_is)
         (best_payoffs.two (tables_of game) game.tree constant b.plan_one.root x with.shows.plan_one b.reply_two.total left)
 
@@ -112,7 +122,8 @@ module _ (game : GameFile) (is : IsFaultless game) where
           root = best.root;
           reply = best.reply;
           is_plan = best.is_plan;
-          attained = two-left (tables_of game) game.tree constant.complete best.root b.plan_two.root best.reply y are constant.constant_sum ∙ ap rest best.attained;
+          attained = two-left (tables_of game) game.tree constant.complete best.root b.plan_two.root best.reply y are constant.constant_sum
+              ∙ ap rest best.attained;
         }
 
     no_more_than : (root : ℕ) (plan : List ℕ) (bound : Fraction) → IsPlanFor Two (tables_of game) game.tree root plan
@@ -120,7 +131,8 @@ module _ (game : GameFile) (is : IsFaultless game) where
     no_more_than root plan bound p sure =
         let are : ArePlans (tables_of game) game.tree b.plan_one.root root x plan = record { one = with.shows.plan_one; two = p } in
         let paid : Fraction = expected_payoff Two (tables_of game) game.tree x plan in
-        at_most-through bound paid (rest b.low) (expected_payoff-lowest (tables_of game) game.tree constant.complete b.plan_one.root root x plan are Two).positive
+        at_most-through bound paid (rest b.low) (expected_payoff-lowest (tables_of game) game.tree constant.complete b.plan_one.root root x plan are
+        Two).positive
         (sure b.plan_one.root x with.shows.plan_one) (best_of_two.most root plan p)
 
     pub bounds_two : BoundsPlayerTwo (tables_of game) game.tree x y (second_bracket (game_sum (tables_of game) game.tree) b)
@@ -136,5 +148,6 @@ bounds_player_two game head b second shown is e =
     let with = accepted_with (weighed_game game) head b shown (in_order game is kinds.One refl) (in_order game is kinds.Two refl) (some_unit game is) a.0 in
     let x : List ℕ = printed_numbers b.plan_one in
     let y : List ℕ = printed_numbers b.plan_two in
-    let same : second ≡ second_bracket (game_sum (tables_of game) game.tree) b = some_same second (second_bracket head.sum b) (a.1 refl) ∙ ap (λ k. second_bracket k b) with.head_is.sum_is in
+    let same : second ≡ second_bracket (game_sum (tables_of game) game.tree) b = some_same second (second_bracket head.sum b) (a.1 refl)
+    ∙ ap (λ k. second_bracket k b) with.head_is.sum_is in
     subst (λ s. BoundsPlayerTwo (tables_of game) game.tree x y s) (sym same) (bounds_two game is head b with)

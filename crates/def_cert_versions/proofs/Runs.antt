@@ -33,7 +33,8 @@ in_both game c shown one two unit sum fits e =
       accepted = e;
       old_text = (versioned_reading (versioned_text (in_version_one c)) (in_version_one c)).1 (within, refl);
       old_verdict = old;
-      new_text = (versioned_reading (versioned_text (upgraded (in_version_one c))) (upgraded (in_version_one c))).1 (upgrade_fits (in_version_one c) within can, refl);
+      new_text = (versioned_reading (versioned_text (upgraded (in_version_one c))) (upgraded (in_version_one c))).1
+          (upgrade_fits (in_version_one c) within can, refl);
       new_verdict = upgrades.same_verdict game (in_version_one c) shown old;
     }
 
@@ -49,4 +50,5 @@ is_shown game head (suc n) rounds one two is fits =
 pub texts_of_a_run : TheTextsOfARunAreAccepted
 texts_of_a_run game head one two few_one few_two sum is fits =
     let a = is_shown game head head.rounds refl one two is fits in
-    in_both game (certificate_of game.form (outcome game.form head)) a.0 one two (omega (arith, fits.unit.0, is.unit)) sum (fits_always game head one two few_one few_two is fits) a.1
+    in_both game (certificate_of game.form (outcome game.form head)) a.0 one two (omega (arith, fits.unit.0, is.unit)) sum
+    (fits_always game head one two few_one few_two is fits) a.1

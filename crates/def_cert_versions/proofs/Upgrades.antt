@@ -58,7 +58,8 @@ parts_of limit f n d low some value small few =
 -- the denominator divides each number that makes the fraction whole
 pub den-divides : (f : Fraction) (n : ℤ) (m : ℕ) → IsInLowestTerms f → HasValue f n m → f.den ∣ m
 den-divides f n m low value =
-    let sizes : unsigned_abs n * f.den ≡ unsigned_abs f.num * m = sym (unsigned_abs-mul n (pos f.den)) ∙ ap unsigned_abs (sym value) ∙ unsigned_abs-mul f.num (pos m) in
+    let sizes : unsigned_abs n * f.den ≡ unsigned_abs f.num * m = sym (unsigned_abs-mul n (pos f.den)) ∙ ap unsigned_abs (sym value)
+    ∙ unsigned_abs-mul f.num (pos m) in
     divides_other (unsigned_abs f.num) f.den m low.coprime (subst (λ k. f.den ∣ k) sizes (dvd-mul_left f.den (unsigned_abs n)))
 
 -- a fraction that is small times the unit is as small times the unit and a root, over that root
@@ -85,7 +86,8 @@ pay-small leaves r s x y few_x few_y =
       arith,
       unsigned_abs-sum_over amount leaves,
       nat_sum_over-mono (λ z. unsigned_abs (amount z)) size leaves
-          (λ k d low. let z : Leaf = get_or leaves k d in term z.weight (slice_index x z.sequence_one * slice_index y z.sequence_two) (r * s) (mul-le-mul (few_x z.sequence_one) (few_y z.sequence_two))),
+          (λ k d low. let z : Leaf = get_or leaves k d in term z.weight (slice_index x z.sequence_one * slice_index y z.sequence_two) (r * s)
+          (mul-le-mul (few_x z.sequence_one) (few_y z.sequence_two))),
       nat_sum_over-factor (r * s) (λ z. unsigned_abs z.weight) leaves,
     )
 
@@ -94,14 +96,16 @@ pay-small leaves r s x y few_x few_y =
 end_turns : (unit root mass : ℕ) (end : Fraction) (total : ℤ) → 1 ≤ root → IsInLowestTerms end
     → HasValue end total (unit * root) → unsigned_abs total ≤ mass * root → mass ≤ most → EndTurns unit root end
 end_turns unit root mass end total some low value small light =
-    let sizes : unsigned_abs end.num * (unit * root) ≡ unsigned_abs total * end.den = sym (unsigned_abs-mul end.num (pos (unit * root))) ∙ ap unsigned_abs value ∙ unsigned_abs-mul total (pos end.den) in
+    let sizes : unsigned_abs end.num * (unit * root) ≡ unsigned_abs total * end.den = sym (unsigned_abs-mul end.num (pos (unit * root))) ∙ ap unsigned_abs value
+    ∙ unsigned_abs-mul total (pos end.den) in
     let spread : unsigned_abs end.num * (unit * root) ≡ (unsigned_abs end.num * unit) * root = sym (mul_assoc (unsigned_abs end.num) unit root) in
     let turned : (mass * root) * end.den ≡ (mass * end.den) * root = mul-swap_last mass root end.den in
     record {
       whole = den-divides end total (unit * root) low value;
       small = omega (
         arith,
-        le_of_mul-le-mul_right {m = unsigned_abs end.num * unit} {n = mass * end.den} {k = root} (omega (arith, sizes, spread, turned, mul-le-mul_right end.den small)) some,
+        le_of_mul-le-mul_right {m = unsigned_abs end.num * unit} {n = mass * end.den} {k = root}
+            (omega (arith, sizes, spread, turned, mul-le-mul_right end.den small)) some,
         mul-le-mul_right end.den light,
       );
     }
@@ -118,7 +122,8 @@ rest_fits unit root sum end some_unit few_units some_root few low_sum low_end di
     let h : ℤ = weight_of m end in
     let rest : Fraction = difference_of sum end in
     let low : IsInLowestTerms rest = difference-lowest sum end low_sum.positive low_end.positive in
-    let times : IsTimes (pos m) rest (k -ℤ h) = times-difference (pos m) sum end k h low_sum.positive low_end.positive (whole-weight m sum divides_m) (whole-weight m end turns.whole) in
+    let times : IsTimes (pos m) rest (k -ℤ h) = times-difference (pos m) sum end k h low_sum.positive low_end.positive (whole-weight m sum divides_m)
+    (whole-weight m end turns.whole) in
     let few_m : m ≤ 2 ^ 98 = mul-le-mul few_units few in
     let small_k : unsigned_abs k ≤ most * root = weight-small unit root sum low_sum.positive divides_m small in
     let small_h : unsigned_abs h ≤ most * root = weight-small unit root end low_end.positive turns.whole turns.small in
@@ -137,7 +142,8 @@ module _ (game : WeighedGame) (one : AreInOrder game.form.sets_one) (two : AreIn
       omega (
         arith,
         ap unsigned_abs shows.floor_attained.pays,
-        pay-small game.form.leaves b.plan_one.root 1 (printed_numbers b.plan_one) reply (plan-below_root game.form.sets_one b.plan_one.root (printed_numbers b.plan_one) one shows.plan_one)
+        pay-small game.form.leaves b.plan_one.root 1 (printed_numbers b.plan_one) reply
+            (plan-below_root game.form.sets_one b.plan_one.root (printed_numbers b.plan_one) one shows.plan_one)
             (plan-below_root game.form.sets_two 1 reply two shows.floor_attained.is_plan),
         ap (λ n. mass_of game.form.leaves * n) (mul-one b.plan_one.root),
       )
@@ -149,7 +155,8 @@ module _ (game : WeighedGame) (one : AreInOrder game.form.sets_one) (two : AreIn
       omega (
         arith,
         ap unsigned_abs shows.ceiling_attained.pays,
-        pay-small game.form.leaves 1 b.plan_two.root reply (printed_numbers b.plan_two) (plan-below_root game.form.sets_one 1 reply one shows.ceiling_attained.is_plan)
+        pay-small game.form.leaves 1 b.plan_two.root reply (printed_numbers b.plan_two)
+            (plan-below_root game.form.sets_one 1 reply one shows.ceiling_attained.is_plan)
             (plan-below_root game.form.sets_two b.plan_two.root (printed_numbers b.plan_two) two shows.plan_two),
         ap (λ n. mass_of game.form.leaves * n) (one-mul b.plan_two.root),
       )
@@ -157,8 +164,10 @@ module _ (game : WeighedGame) (one : AreInOrder game.form.sets_one) (two : AreIn
   both_turn : (b : PrintedBounds) → ShowsItsBounds game b → mass_of game.form.leaves ≤ most
       → EndTurns game.unit b.plan_one.root b.low × EndTurns game.unit b.plan_two.root b.high
   both_turn b shows light = (
-    end_turns game.unit b.plan_one.root (mass_of game.form.leaves) b.low b.reply_two.total shows.plan_one.some_root shows.low.lowest shows.low.value (floor_small b shows) light,
-    end_turns game.unit b.plan_two.root (mass_of game.form.leaves) b.high b.reply_one.total shows.plan_two.some_root shows.high.lowest shows.high.value (ceiling_small b shows) light,
+    end_turns game.unit b.plan_one.root (mass_of game.form.leaves) b.low b.reply_two.total shows.plan_one.some_root shows.low.lowest shows.low.value
+        (floor_small b shows) light,
+    end_turns game.unit b.plan_two.root (mass_of game.form.leaves) b.high b.reply_one.total shows.plan_two.some_root shows.high.lowest shows.high.value
+        (ceiling_small b shows) light,
   )
 
 head_is_of : (game : WeighedGame) (head : Head) (bounds : Option PrintedBounds) (shown : Verdict)
@@ -193,8 +202,10 @@ second_within : (head : Head) (bounds : Option PrintedBounds) → HeadFits head 
     → SecondFits versions.Two bounds (option_map (second_bracket head.sum) bounds)
 second_within head None fits below whole small turn = refl
 second_within head (Some b) fits below whole small turn = (
-  rest_fits head.unit b.plan_two.root head.sum b.high fits.unit.0 fits.unit.1 below.plan_two.root.0 below.plan_two.root.1 fits.sum.lowest below.high.lowest whole small turn.1,
-  rest_fits head.unit b.plan_one.root head.sum b.low fits.unit.0 fits.unit.1 below.plan_one.root.0 below.plan_one.root.1 fits.sum.lowest below.low.lowest whole small turn.0,
+  rest_fits head.unit b.plan_two.root head.sum b.high fits.unit.0 fits.unit.1 below.plan_two.root.0 below.plan_two.root.1 fits.sum.lowest below.high.lowest
+      whole small turn.1,
+  rest_fits head.unit b.plan_one.root head.sum b.low fits.unit.0 fits.unit.1 below.plan_one.root.0 below.plan_one.root.1 fits.sum.lowest below.low.lowest whole
+      small turn.0,
 )
 
 -- the upgrade of what is upgradable is within its ranges
@@ -208,7 +219,8 @@ upgrades_fit c fits is = record {
 pub upgraded_texts : UpgradedTextsAreAccepted
 upgraded_texts game bytes c shown is e accepts =
     let text = (versioned_reading bytes c).0 e in
-    let can = upgradable (weighed_game game) c shown (in_order game is kinds.One refl) (in_order game is kinds.Two refl) (some_unit game is) (whole_sums game is) text.0 accepts in
+    let can = upgradable (weighed_game game) c shown (in_order game is kinds.One refl) (in_order game is kinds.Two refl) (some_unit game is)
+    (whole_sums game is) text.0 accepts in
     record {
       read = (versioned_reading (versioned_text (upgraded c)) (upgraded c)).1 (upgrades_fit c text.0 can, refl);
       accepted = upgrades.same_verdict (weighed_game game) c shown accepts;

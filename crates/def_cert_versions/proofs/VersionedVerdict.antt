@@ -43,7 +43,14 @@ nodes_line : (game : WeighedGame) (head : Head)
     → Decides (eqb head.nodes game.nodes && eqb head.leaves (length game.form.leaves)) (NamesLineOfTwo game head 2)
 nodes_line game head =
     let d = both head.nodes game.nodes head.leaves (length game.form.leaves) in (
-      λ e. record { nodes = λ l. d.0 e; sets = λ l. absurd (omega arith); sequences = λ l. absurd (omega arith); unit = λ l. absurd (omega arith); mass_is = λ l. absurd (omega arith); sum_is = λ l. absurd (omega arith) },
+      λ e. record {
+        nodes = λ l. d.0 e;
+        sets = λ l. absurd (omega arith);
+        sequences = λ l. absurd (omega arith);
+        unit = λ l. absurd (omega arith);
+        mass_is = λ l. absurd (omega arith);
+        sum_is = λ l. absurd (omega arith);
+      },
       λ s. d.1 (s.nodes refl),
     )
 
@@ -51,36 +58,72 @@ sets_line : (game : WeighedGame) (head : Head)
     → Decides (eqb head.sets_one (length game.form.sets_one) && eqb head.sets_two (length game.form.sets_two)) (NamesLineOfTwo game head 3)
 sets_line game head =
     let d = both head.sets_one (length game.form.sets_one) head.sets_two (length game.form.sets_two) in (
-      λ e. record { nodes = λ l. absurd (omega arith); sets = λ l. d.0 e; sequences = λ l. absurd (omega arith); unit = λ l. absurd (omega arith); mass_is = λ l. absurd (omega arith); sum_is = λ l. absurd (omega arith) },
+      λ e. record {
+        nodes = λ l. absurd (omega arith);
+        sets = λ l. d.0 e;
+        sequences = λ l. absurd (omega arith);
+        unit = λ l. absurd (omega arith);
+        mass_is = λ l. absurd (omega arith);
+        sum_is = λ l. absurd (omega arith);
+      },
       λ s. d.1 (s.sets refl),
     )
 
 sequences_line : (game : WeighedGame) (head : Head)
-    → Decides (eqb head.sequences_one (sequence_count game.form.sets_one) && eqb head.sequences_two (sequence_count game.form.sets_two)) (NamesLineOfTwo game head 4)
+    → Decides (eqb head.sequences_one (sequence_count game.form.sets_one) && eqb head.sequences_two (sequence_count game.form.sets_two))
+    (NamesLineOfTwo game head 4)
 sequences_line game head =
     let d = both head.sequences_one (sequence_count game.form.sets_one) head.sequences_two (sequence_count game.form.sets_two) in (
-      λ e. record { nodes = λ l. absurd (omega arith); sets = λ l. absurd (omega arith); sequences = λ l. d.0 e; unit = λ l. absurd (omega arith); mass_is = λ l. absurd (omega arith); sum_is = λ l. absurd (omega arith) },
+      λ e. record {
+        nodes = λ l. absurd (omega arith);
+        sets = λ l. absurd (omega arith);
+        sequences = λ l. d.0 e;
+        unit = λ l. absurd (omega arith);
+        mass_is = λ l. absurd (omega arith);
+        sum_is = λ l. absurd (omega arith);
+      },
       λ s. d.1 (s.sequences refl),
     )
 
 unit_line : (game : WeighedGame) (head : Head) → Decides (eqb head.unit game.unit) (NamesLineOfTwo game head 5)
 unit_line game head =
     let d = Decides-eqb head.unit game.unit in (
-      λ e. record { nodes = λ l. absurd (omega arith); sets = λ l. absurd (omega arith); sequences = λ l. absurd (omega arith); unit = λ l. d.0 e; mass_is = λ l. absurd (omega arith); sum_is = λ l. absurd (omega arith) },
+      λ e. record {
+        nodes = λ l. absurd (omega arith);
+        sets = λ l. absurd (omega arith);
+        sequences = λ l. absurd (omega arith);
+        unit = λ l. d.0 e;
+        mass_is = λ l. absurd (omega arith);
+        sum_is = λ l. absurd (omega arith);
+      },
       λ s. d.1 (s.unit refl),
     )
 
 mass_line : (game : WeighedGame) (head : Head) → Decides (eqb head.mass (mass_of game.form.leaves)) (NamesLineOfTwo game head 6)
 mass_line game head =
     let d = Decides-eqb head.mass (mass_of game.form.leaves) in (
-      λ e. record { nodes = λ l. absurd (omega arith); sets = λ l. absurd (omega arith); sequences = λ l. absurd (omega arith); unit = λ l. absurd (omega arith); mass_is = λ l. d.0 e; sum_is = λ l. absurd (omega arith) },
+      λ e. record {
+        nodes = λ l. absurd (omega arith);
+        sets = λ l. absurd (omega arith);
+        sequences = λ l. absurd (omega arith);
+        unit = λ l. absurd (omega arith);
+        mass_is = λ l. d.0 e;
+        sum_is = λ l. absurd (omega arith);
+      },
       λ s. d.1 (s.mass_is refl),
     )
 
 sum_line : (game : WeighedGame) (head : Head) → Decides (is_same_fraction head.sum game.sum) (NamesLineOfTwo game head 7)
 sum_line game head =
     let d = same_fraction head.sum game.sum in (
-      λ e. record { nodes = λ l. absurd (omega arith); sets = λ l. absurd (omega arith); sequences = λ l. absurd (omega arith); unit = λ l. absurd (omega arith); mass_is = λ l. absurd (omega arith); sum_is = λ l. d.0 e },
+      λ e. record {
+        nodes = λ l. absurd (omega arith);
+        sets = λ l. absurd (omega arith);
+        sequences = λ l. absurd (omega arith);
+        unit = λ l. absurd (omega arith);
+        mass_is = λ l. absurd (omega arith);
+        sum_is = λ l. d.0 e;
+      },
       λ s. d.1 (s.sum_is refl),
     )
 
@@ -135,8 +178,14 @@ caused : (game : WeighedGame) (head : Head) (f : TestFault) → HeadFaultOfTwo g
 caused game head (HeadDiffers line) c =
     ⊎_elim (λ less. absurd (c.fails (other_line game head line (λ a b. omega arith))))
     (λ more.
-    let back : line ≡ 2 + (line - 2) = omega arith in
-    (line - 2, ap HeadDiffers back, record { fails = λ s. c.fails (subst (NamesLineOfTwo game head) (sym back) s); earlier = λ j low. c.earlier (2 + j) (omega arith) }))
+    let back : line ≡ 2 + (line - 2) = omega arith in (
+      line - 2,
+      ap HeadDiffers back,
+      record {
+        fails = λ s. c.fails (subst (NamesLineOfTwo game head) (sym back) s);
+        earlier = λ j low. c.earlier (2 + j) (omega arith);
+      },
+    ))
     (cases_lt line 2)
 caused game head (NotAPlan p set) c = absurd c
 caused game head (ValueTooGood p set action) c = absurd c
@@ -157,10 +206,12 @@ head_described_two game head =
 described : (v : TextVersion) (game : WeighedGame) (c : Certificate)
     → TestsDecide (tests_of v game c) (IsHeadOf game c.head × BoundsHoldUp game c.head.scale c.bounds) (TestFaultOf v game c)
 described versions.One game c =
-    TestsDecide-append (head_tests game c.head) (tests_below_head game (first_trace_line_of versions.One) c.head.scale c.bounds) _ _ _ _ (head_described game c.head)
+    TestsDecide-append (head_tests game c.head) (tests_below_head game (first_trace_line_of versions.One) c.head.scale c.bounds) _ _ _ _
+    (head_described game c.head)
     (below_described game (first_trace_line_of versions.One) c.head.scale c.bounds)
 described versions.Two game c =
-    TestsDecide-append (head_tests_of versions.Two game c.head) (tests_below_head game (first_trace_line_of versions.Two) c.head.scale c.bounds) _ _ _ _ (head_described_two game c.head)
+    TestsDecide-append (head_tests_of versions.Two game c.head) (tests_below_head game (first_trace_line_of versions.Two) c.head.scale c.bounds) _ _ _ _
+    (head_described_two game c.head)
     (below_described game (first_trace_line_of versions.Two) c.head.scale c.bounds)
 
 -- ---- from tests to the verdict
@@ -187,7 +238,8 @@ same_bracket None None = (λ e. refl, λ e. refl)
 same_bracket None (Some b) = (λ e. absurd (false≢true e), λ e. absurd (none-some b e))
 same_bracket (Some a) None = (λ e. absurd (false≢true e), λ e. absurd (none-some a (sym e)))
 same_bracket (Some a) (Some b) =
-    Decides-like (is_same_bracket (Some a) (Some b)) (λ p. ap (λ l. Some (record { low = l; high = a.high })) p.0 ∙ ap (λ h. Some (record { low = b.low; high = h })) p.1)
+    Decides-like (is_same_bracket (Some a) (Some b)) (λ p. ap (λ l. Some (record { low = l; high = a.high })) p.0
+    ∙ ap (λ h. Some (record { low = b.low; high = h })) p.1)
     (λ e. (let same : a ≡ b = same_Some a b e in (ap (λ (x : PrintedBracket). x.low) same, ap (λ (x : PrintedBracket). x.high) same)))
     (Decides-and (is_same_fraction a.low b.low) (is_same_fraction a.high b.high) (same_fraction a.low b.low) (same_fraction a.high b.high))
 
@@ -290,7 +342,8 @@ pub upgrades : UpgradesAreAccepted
 upgrades = record {
   of_two = λ c. refl;
   same = λ c. refl;
-  same_verdict = λ game c shown e. accepted_from game (upgraded c) shown (alike versions.One versions.Two game c.certificate shown ((accept_alike game c shown).0 e).0) (λ two. refl);
+  same_verdict = λ game c shown e. accepted_from game (upgraded c) shown (alike versions.One versions.Two game c.certificate shown
+      ((accept_alike game c shown).0 e).0) (λ two. refl);
   itself = λ game c shown e two.
       let second = ((accept_alike game c shown).0 e).1 two in
       λ i. record { version = sym two i; certificate = c.certificate; second = sym second i };

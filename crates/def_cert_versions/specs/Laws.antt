@@ -63,11 +63,12 @@ pub record IsSecondFault (game : WeighedGame) (c : VersionedCertificate) (fault 
 -- second bracket exactly where all tests pass before it
 abbrev pub EachVersionedFaultHasItsCause : Type 0
 EachVersionedFaultHasItsCause = (game : WeighedGame) (c : VersionedCertificate) (fault : TestFault)
-    → (versioned_verdict game c ≡ Err fault) ↔ (TestFaultOf c.version game c.certificate fault ⊎ IsSecondFault game c fault)
+    → (versioned_verdict game c ≡ Err fault) ↔ (TestFaultOf c.version game c.certificate fault
+    ⊎ IsSecondFault game c fault)
 
 -- ---- upgrades
--- an upgrade is of version 2 and says the same; what is accepted is accepted as an upgrade with the same verdict, and what is
--- of version 2 is its own upgrade
+-- an upgrade is of version 2 and says the same; what is accepted is accepted as an upgrade with the same verdict, and
+-- what is of version 2 is its own upgrade
 pub record UpgradesAreAccepted : Type 0 where
   pub of_two : (c : VersionedCertificate) → (upgraded c).version ≡ versions.Two
   pub same : (c : VersionedCertificate) → (upgraded c).certificate ≡ c.certificate

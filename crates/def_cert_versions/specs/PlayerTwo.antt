@@ -1,5 +1,6 @@
 -- What the second bracket of an accepted certificate says of player two, in player two's own payoff.
---     BoundsPlayerTwo tables tree x y second           the second bracket bounds what player two gets by the plans x and y
+--     BoundsPlayerTwo tables tree x y second           the second bracket bounds what player two gets by the plans x
+--     and y
 use Rattle.std.specs.Prelude.{◌≡◌, ℕ, List, Ok}
 use Rattle.def_tree.specs.declared.Player.TheVariants.{One, Two}
 use Rattle.def_tree.specs.Tree.{Forest}
@@ -27,7 +28,8 @@ pub record IsLeftTo (tables : Tables) (tree : Forest) (plan_two : List ℕ) (low
 
 -- player two's plan is sure of the lower end, and some plan of player one leaves it no more; the upper end is the best
 -- that player two is expected to get against player one's plan, and so no plan of player two is sure of more
-pub record BoundsPlayerTwo (tables : Tables) (tree : Forest) (plan_one plan_two : List ℕ) (second : PrintedBracket) : Type 0 where
+pub record BoundsPlayerTwo (tables : Tables) (tree : Forest) (plan_one plan_two : List ℕ)
+    (second : PrintedBracket) : Type 0 where
   pub sure : IsSureOf Two tables tree plan_two second.low
   pub left : IsLeftTo tables tree plan_two second.low
   pub best : IsBestPayoff Two tables tree plan_one second.high
@@ -36,6 +38,7 @@ pub record BoundsPlayerTwo (tables : Tables) (tree : Forest) (plan_one plan_two 
 
 -- whoever wrote it, a certificate of version 2 that is accepted for a file's game bounds player two so
 abbrev pub TheSecondBracketBoundsPlayerTwo : Type 0
-TheSecondBracketBoundsPlayerTwo = (game : GameFile) (head : Head) (b : PrintedBounds) (second : PrintedBracket) (shown : Verdict) → IsFaultless game
+TheSecondBracketBoundsPlayerTwo = (game : GameFile) (head : Head) (b : PrintedBounds) (second : PrintedBracket)
+    (shown : Verdict) → IsFaultless game
     → versioned_verdict (weighed_game game) (with_second head b second) ≡ Ok shown
     → BoundsPlayerTwo (tables_of game) game.tree (printed_numbers b.plan_one) (printed_numbers b.plan_two) second

@@ -39,14 +39,16 @@ verdict_in_one head changes = versioned_verdict shared_game (shared_in_one head 
 
 -- with the second bracket that the sum leaves of the unchanged bounds
 abbrev pub verdict_in_two : Head → List Change → Result Verdict TestFault
-verdict_in_two head changes = versioned_verdict shared_game (shared_in_two head changes (over (negative_of 1) 1) (over (negative_of 5) 6))
+verdict_in_two head changes = versioned_verdict shared_game
+    (shared_in_two head changes (over (negative_of 1) 1) (over (negative_of 5) 6))
 
 -- with another second bracket
 abbrev pub verdict_on_second : Fraction → Fraction → Result Verdict TestFault
 verdict_on_second low high = versioned_verdict shared_game (shared_in_two shared_head [] low high)
 
 abbrev pub verdict_beside_other_second : Head → List Change → Result Verdict TestFault
-verdict_beside_other_second head changes = versioned_verdict shared_game (shared_in_two head changes (over (negative_of 1) 1) (over (pos 37) 6))
+verdict_beside_other_second head changes = versioned_verdict shared_game
+    (shared_in_two head changes (over (negative_of 1) 1) (over (pos 37) 6))
 
 -- two rounds of matching pennies, some fields changed
 abbrev pub pennies_in_one : List Change → VersionedCertificate
@@ -57,7 +59,12 @@ pennies_in_two changes low high = with_second scale_one_head (changed scale_one_
 
 -- a leaf alone, which pays both players together -1/3
 abbrev pub leaf_game : WeighedGame
-leaf_game = record { nodes = 1; sum = over (negative_of 1) 3; unit = 3; form = record { sets_one = []; sets_two = []; leaves = weighted 0 0 (pos 0) ∷ [] } }
+leaf_game = record {
+  nodes = 1;
+  sum = over (negative_of 1) 3;
+  unit = 3;
+  form = record { sets_one = []; sets_two = []; leaves = weighted 0 0 (pos 0) ∷ [] };
+}
 
 -- player one chooses between the smallest payoff that is read and nothing
 abbrev pub finest_game : WeighedGame

@@ -26,7 +26,8 @@ pub record IsAcceptedInBoth (game : WeighedGame) (c : Certificate) : Type 0 wher
 
 -- a run's, where the head is the game's and within its ranges, no set has too many actions, and the sum is whole
 abbrev pub TheTextsOfARunAreAccepted : Type 0
-TheTextsOfARunAreAccepted = (game : WeighedGame) (head : Head) → AreInOrder game.form.sets_one → AreInOrder game.form.sets_two
+TheTextsOfARunAreAccepted = (game : WeighedGame) (head : Head) → AreInOrder game.form.sets_one
+    → AreInOrder game.form.sets_two
     → All (λ h. h.actions ≤ most_actions) game.form.sets_one → All (λ h. h.actions ≤ most_actions) game.form.sets_two
     → HasWholeSum game → IsHeadOf game head → HeadFits head
     → IsAcceptedInBoth game (certificate_of game.form (outcome game.form head))

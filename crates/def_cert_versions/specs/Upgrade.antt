@@ -33,7 +33,8 @@ pub record IsUpgradable (c : VersionedCertificate) : Type 0 where
 
 -- a certificate within its ranges that is accepted is upgradable
 abbrev pub AcceptedAreUpgradable : Type 0
-AcceptedAreUpgradable = (game : WeighedGame) (c : VersionedCertificate) (shown : Verdict) → AreInOrder game.form.sets_one
+AcceptedAreUpgradable = (game : WeighedGame) (c : VersionedCertificate) (shown : Verdict)
+    → AreInOrder game.form.sets_one
     → AreInOrder game.form.sets_two → 1 ≤ game.unit → HasWholeSum game → VersionedFits c
     → versioned_verdict game c ≡ Ok shown → IsUpgradable c
 
@@ -50,5 +51,6 @@ pub record IsUpgradedText (game : GameFile) (bytes : List ℕ) (c : VersionedCer
 
 -- of a text that is accepted for a file's game
 abbrev pub UpgradedTextsAreAccepted : Type 0
-UpgradedTextsAreAccepted = (game : GameFile) (bytes : List ℕ) (c : VersionedCertificate) (shown : Verdict) → IsFaultless game
+UpgradedTextsAreAccepted = (game : GameFile) (bytes : List ℕ) (c : VersionedCertificate) (shown : Verdict)
+    → IsFaultless game
     → versioned_in bytes ≡ Ok c → versioned_verdict (weighed_game game) c ≡ Ok shown → IsUpgradedText game bytes c shown

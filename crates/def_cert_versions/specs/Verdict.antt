@@ -1,5 +1,5 @@
--- The verdict on a certificate of either version, by the lines of its version: what its certificate says is judged first,
--- and then the bracket of player two's own payoff.
+-- The verdict on a certificate of either version, by the lines of its version: what its certificate says is judged
+-- first, and then the bracket of player two's own payoff.
 --     second_bracket sum b         what the sum leaves of both ends of the bracket, in the other order
 --     versioned_verdict game c     what the certificate shows of the game, or its first fault
 use Rattle.std.specs.Prelude.{ℕ, ◌+◌, ◌==◌, Bool, true, false, ◌&&◌, not, List, [], ◌∷◌, ◌++◌, take, Option, Some, None}

@@ -23,7 +23,7 @@ abbrev pub AcceptedWithoutFault : Type 0
 AcceptedWithoutFault = (bytes : List ℕ) (game : GameFile)
     → (read_as_accepted bytes ≡ Ok game) ↔ IsAccepted bytes game
 
--- of an accepted file's game chance plays by probabilities, all leaves pay both players together the same, the unit, this
--- sum in the unit and the mass are within the limit, and all remember their choices
+-- of an accepted file's game chance plays by probabilities, all leaves pay both players together the same, the unit,
+-- this sum in the unit and the mass are within the limit, and all remember their choices
 abbrev pub AcceptedGamesAreSound : Type 0
 AcceptedGamesAreSound = (bytes : List ℕ) (game : GameFile) → IsAccepted bytes game → IsSound (tables_of game) game.tree

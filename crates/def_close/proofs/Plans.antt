@@ -1,5 +1,6 @@
 -- The certificate of two plans with the best replies to them holds up, and is within its ranges.
-use Rattle.std.proofs.Common.{◌≡◌, ℕ, zero, suc, ◌+◌, ◌-◌, ◌*◌, ◌/◌, ◌≤◌, ◌<◌, List, [], ◌∷◌, slice_index_or, ◌^◌, All, unsigned_abs, Ok, refl, sym, ap, ◌∙◌, subst, arith}
+use Rattle.std.proofs.Common.{◌≡◌, ℕ, zero, suc, ◌+◌, ◌-◌, ◌*◌, ◌/◌, ◌≤◌, ◌<◌, List, [], ◌∷◌, slice_index_or, ◌^◌, All, unsigned_abs, Ok, refl, sym, ap, ◌∙◌}
+use Rattle.std.proofs.Common.{subst, arith}
 use Rattle.std.proofs.lemmas.Nat.{mul-le}
 use Rattle.std.proofs.Math.Nat.{one-mul, add-div_right, div-eq_of_lt}
 use Rattle.def_tree.specs.declared.Player.TheVariants.{One, Two}

@@ -33,8 +33,8 @@ CertificatesOfPlansFit = (game : WeighedGame) (head : Head) (one two : List ℕ)
     → ArePlansOf game.form (head.rounds * head.scale) one two
     → CertificateFits (certificate_of game.form (one_line head (ends_of_plans game.form one two)))
 
--- of an accepted file's game, the text of any two plans of the greatest root is one that a check of the file accepts, with
--- the totals of their best replies in payoff units, and what its bounds say holds
+-- of an accepted file's game, the text of any two plans of the greatest root is one that a check of the file accepts,
+-- with the totals of their best replies in payoff units, and what its bounds say holds
 abbrev pub TextsOfPlansHold : Type 0
 TextsOfPlansHold = (file : List ℕ) (game : GameFile) (one two : List ℕ) → IsAccepted file game
     → ArePlansOf (form_of_file game) most_root one two

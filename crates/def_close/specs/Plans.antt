@@ -1,5 +1,5 @@
--- The certificate of two plans, whoever made them, and the best replies to them. Its trace has one line, of all rounds that
--- a certificate can have at the greatest scale: so both plans have the greatest root.
+-- The certificate of two plans, whoever made them, and the best replies to them. Its trace has one line, of all rounds
+-- that a certificate can have at the greatest scale: so both plans have the greatest root.
 --     ends_of_plans form one two     both plans with the other player's best reply to each
 --     one_line head ends             what is printed of them: one line of trace, and both ends
 --     pair_text game one two         the text of their certificate, in version 2
@@ -81,8 +81,8 @@ pub record HasOneLine (certificate : VersionedCertificate) : Type 0 where
   pub every : certificate.certificate.head.every ≡ 65536
   pub scale : certificate.certificate.head.scale ≡ 1048576
 
--- The text is that of such a certificate. A check of the file accepts it with this bracket, and what its bounds say holds
--- of the file's game. It isn't too long for a certificate.
+-- The text is that of such a certificate. A check of the file accepts it with this bracket, and what its bounds say
+-- holds of the file's game. It isn't too long for a certificate.
 pub record IsBracketText (file text : List ℕ) (low high : Fraction) : Type 0 where
   pub checks : Checks file text (Ok (bracket low high))
   pub holds : HoldsOfFile file text (λ certificate verdict. (verdict ≡ bracket low high) × HasOneLine certificate)

@@ -1,5 +1,5 @@
-//! What a search for a narrow bracket prints: the certificate of two plans, whoever made them; how narrow it is; and what
-//! is said on the way. There is no code here: the functions' contracts are laws of the definitions, which stand in
+//! What a search for a narrow bracket prints: the certificate of two plans, whoever made them; how narrow it is; and
+//! what is said on the way. There is no code here: the functions' contracts are laws of the definitions, which stand in
 //! `specs/`.
 #![tactic(auto)]
 

@@ -1,11 +1,13 @@
 -- Taking arguments one after another.
-use Rattle.std.proofs.Common.{◌≡◌, ◌⊎◌, ⊎_elim, ℕ, ◌+◌, ◌<◌, ◌≤◌, Bool, true, false, cond, List, [], ◌∷◌, ◌++◌, length, Option, Some, None, refl, sym, ap, ◌∙◌, subst, inl, inr, append_assoc, arith}
+use Rattle.std.proofs.Common.{◌≡◌, ◌⊎◌, ⊎_elim, ℕ, ◌+◌, ◌<◌, ◌≤◌, Bool, true, false, cond, List, [], ◌∷◌, ◌++◌, length, Option, Some, None, refl, sym, ap, ◌∙◌}
+use Rattle.std.proofs.Common.{subst, inl, inr, append_assoc, arith}
 use Rattle.std.specs.Option.{option_and_then, option_or, is_none}
 use Rattle.std.proofs.lemmas.Bool.{and_from, and_parts, lt-ltb, ltb-true}
 use Rattle.std.proofs.lemmas.List.{append-nil, length-append}
 use Rattle.std.proofs.lemmas.Option.{none-some, same_Some, cond_some}
 use Rattle.def_command.specs.Table.{CommandName, OptionName, Rounds, Every, Scale, Workers, Atomic, most_plain, takes}
-use Rattle.def_command.specs.Grammar.{Argument, Plain, Number, Taken, NumbersSoFar, number_so_far, with_number, take_plain, take_number, plain_words, number_given, is_same_option, AreOptionsOf}
+use Rattle.def_command.specs.Grammar.{Argument, Plain, Number, Taken, NumbersSoFar, number_so_far, with_number, take_plain, take_number, plain_words}
+use Rattle.def_command.specs.Grammar.{number_given, is_same_option, AreOptionsOf}
 use Rattle.def_command.proofs.CommandAndOptionNames.{and_then_some}
 
 -- one argument is taken

@@ -6,7 +6,10 @@ use Rattle.def_sums.specs.Limits.{least_cards, most_cards}
 use Rattle.def_fraction.proofs.LiteralLemmas.{option_map_some}
 use Rattle.def_command.specs.Table as table
 use Rattle.def_command.specs.Table.{CommandName, OptionName, Rounds, Every, Scale, Workers, Atomic, least_plain, most_plain}
-use Rattle.def_command.specs.Grammar.{Settings, RowSettings, Command, Solve, Check, Upgrade, Info, Gen, Drill, Plus, Batch, Argument, Taken, takes_nothing, IsCall, IsCommand, IsOfTwo, number_so_far, number_given, number_from_to, plain_words, settings_from, settings_in, settings_of, workers_of, rows_from, rows_in, rows_of, with_one, with_two, with_some, read_words, command_from, command_named, command_of_words}
+use Rattle.def_command.specs.Grammar.{Settings, RowSettings, Command, Solve, Check, Upgrade, Info, Gen, Drill, Plus, Batch, Argument, Taken, takes_nothing}
+use Rattle.def_command.specs.Grammar.{IsCall, IsCommand, IsOfTwo, number_so_far, number_given, number_from_to, plain_words, settings_from, settings_in}
+use Rattle.def_command.specs.Grammar.{settings_of, workers_of, rows_from, rows_in, rows_of, with_one, with_two, with_some, read_words, command_from}
+use Rattle.def_command.specs.Grammar.{command_named, command_of_words}
 use Rattle.def_command.proofs.CommandAndOptionNames.{and_then_some, command_found, command_by_word}
 use Rattle.def_command.proofs.Arguments.{Merges, merges, few_taken, taken_all}
 use Rattle.def_command.proofs.WordByWord.{number_is_read, number_read, arguments_are_read, arguments_read}

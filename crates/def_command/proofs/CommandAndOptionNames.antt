@@ -1,5 +1,6 @@
 -- What is found by its name in a list, and the parts of an option's word.
-use Rattle.std.proofs.Common.{◌≡◌, ◌⊎◌, ℕ, zero, suc, ◌<◌, Bool, true, false, cond, ◌==◌, List, [], ◌∷◌, ◌++◌, length, slice_index_or, Option, Some, None, refl, sym, ap, ◌∙◌, inl, inr, arith}
+use Rattle.std.proofs.Common.{◌≡◌, ◌⊎◌, ℕ, zero, suc, ◌<◌, Bool, true, false, cond, ◌==◌, List, [], ◌∷◌, ◌++◌, length, slice_index_or, Option, Some, None, refl}
+use Rattle.std.proofs.Common.{sym, ap, ◌∙◌, inl, inr, arith}
 use Rattle.std.specs.List.{Contains, find}
 use Rattle.std.specs.Option.{option_map, option_and_then}
 use Rattle.std.proofs.lemmas.Bool.Decides.{Decides-eqb}
@@ -9,7 +10,8 @@ use Rattle.std.proofs.lemmas.Slice.Eq.{slice_eq-Decides}
 use Rattle.def_sums.proofs.RisingLists.{Contains-tail}
 use Rattle.def_fraction.proofs.LiteralLemmas.{option_map_some}
 use Rattle.def_command.specs.Words.{is_option, is_word}
-use Rattle.def_command.specs.Table.{CommandName, OptionName, Solve, Check, Upgrade, Info, Gen, Drill, Plus, Batch, Rounds, Every, Scale, Workers, Atomic, command_word, option_name, built_commands, built_options}
+use Rattle.def_command.specs.Table.{CommandName, OptionName, Solve, Check, Upgrade, Info, Gen, Drill, Plus, Batch, Rounds, Every, Scale, Workers, Atomic}
+use Rattle.def_command.specs.Table.{command_word, option_name, built_commands, built_options}
 use Rattle.def_command.specs.Grammar.{command_named, option_named, around_equals}
 
 -- ---- lists

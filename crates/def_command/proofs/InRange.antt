@@ -1,11 +1,13 @@
 -- The settings of a command are in the ranges of their options.
-use Rattle.std.proofs.Common.{◌≡◌, ℕ, ◌≤◌, Bool, true, false, cond, ◌==◌, List, [], ◌∷◌, length, Option, Some, None, IfSome, unwrap_or, refl, sym, ap, subst, arith}
+use Rattle.std.proofs.Common.{◌≡◌, ℕ, ◌≤◌, Bool, true, false, cond, ◌==◌, List, [], ◌∷◌, length, Option, Some, None, IfSome, unwrap_or, refl, sym, ap, subst}
+use Rattle.std.proofs.Common.{arith}
 use Rattle.std.proofs.lemmas.Bool.{eqb-false}
 use Rattle.std.proofs.lemmas.Option.{none-some, same_Some}
 use Rattle.def_sums.specs.Limits.{most_rounds, most_workers}
 use Rattle.def_command.specs.Table as table
 use Rattle.def_command.specs.Table.{CommandName, OptionName, Rounds, Every, Scale, Workers, least_plain, most_plain, least_number, most_number, default_number}
-use Rattle.def_command.specs.Grammar.{Settings, RowSettings, Solve, Gen, Drill, Plus, Batch, Argument, Plain, Number, AreSpelled, IsCommand, is_same_option, number_given, plain_words, settings_of, workers_of, rows_of}
+use Rattle.def_command.specs.Grammar.{Settings, RowSettings, Solve, Gen, Drill, Plus, Batch, Argument, Plain, Number, AreSpelled, IsCommand, is_same_option}
+use Rattle.def_command.specs.Grammar.{number_given, plain_words, settings_of, workers_of, rows_of}
 use Rattle.def_command.specs.GrammarLaws.{CardsAreInRange, CardsInRange, FilesAreInRange, FilesInRange, SettingsAreInRange}
 use Rattle.def_command.proofs.Arguments.{same_option}
 use Rattle.def_command.proofs.CallsAreComputed.{computed_is_call}

@@ -1,5 +1,6 @@
 -- Reading word by word, and the arguments that words spell.
-use Rattle.std.proofs.Common.{◌≡◌, ⊎_elim, ℕ, Bool, true, false, cond, ◌&&◌, List, [], ◌∷◌, ◌++◌, Option, Some, None, refl, sym, ap, ◌∙◌, subst, inl, inr, arith}
+use Rattle.std.proofs.Common.{◌≡◌, ⊎_elim, ℕ, Bool, true, false, cond, ◌&&◌, List, [], ◌∷◌, ◌++◌, Option, Some, None, refl, sym, ap, ◌∙◌, subst, inl, inr}
+use Rattle.std.proofs.Common.{arith}
 use Rattle.std.specs.Prelude.{nat_le}
 use Rattle.std.specs.List.{Contains}
 use Rattle.std.specs.Option.{option_map, option_and_then}
@@ -9,9 +10,11 @@ use Rattle.def_fraction.specs.Digits.{is_numeral, number_of}
 use Rattle.def_fraction.proofs.LiteralLemmas.{option_map_some}
 use Rattle.def_command.specs.Words.{is_option}
 use Rattle.def_command.specs.Table.{CommandName, OptionName, built_options, option_name, least_number, most_number}
-use Rattle.def_command.specs.Grammar.{Argument, Plain, Number, Taken, IsNumberFromTo, AreSpelled, number_from_to, option_named, around_equals, take_plain, take_number, take_digits, read_option, read_word, read_words}
+use Rattle.def_command.specs.Grammar.{Argument, Plain, Number, Taken, IsNumberFromTo, AreSpelled, number_from_to, option_named, around_equals, take_plain}
+use Rattle.def_command.specs.Grammar.{take_number, take_digits, read_option, read_word, read_words}
 use Rattle.def_command.proofs.Arguments.{take_argument, take_all}
-use Rattle.def_command.proofs.CommandAndOptionNames.{and_then_some, option_found, option_by_name, joined, name_alone, name_alone_is_option, name_and_digits, name_is_option}
+use Rattle.def_command.proofs.CommandAndOptionNames.{and_then_some, option_found, option_by_name, joined, name_alone, name_alone_is_option, name_and_digits}
+use Rattle.def_command.proofs.CommandAndOptionNames.{name_is_option}
 
 -- ---- numbers
 -- a number that is read is in range

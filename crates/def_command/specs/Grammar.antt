@@ -5,12 +5,16 @@
 --     file_words c, named_files words
 --                                the names of the files that the command opens, and the same of the words
 --     IsCall words command       the words are a call of the command: in the words of the format
-use Rattle.std.specs.Prelude.{◌≡◌, ◌⊎◌, ℕ, ◌≤◌, Bool, true, false, ◌&&◌, ◌==◌, nat_lt, nat_le, if◌then◌else◌, List, [], ◌∷◌, ◌++◌, length, find, Contains, Option, Some, None, is_none, unwrap_or, option_map, option_and_then}
+use Rattle.std.specs.Prelude.{◌≡◌, ◌⊎◌, ℕ, ◌≤◌, Bool, true, false, ◌&&◌, ◌==◌, nat_lt, nat_le, if◌then◌else◌, List, []}
+use Rattle.std.specs.Prelude.{◌∷◌, ◌++◌, length, find, Contains, Option, Some, None, is_none, unwrap_or, option_map}
+use Rattle.std.specs.Prelude.{option_and_then}
 use Rattle.def_sums.specs.Limits.{least_cards, most_cards}
 use Rattle.def_fraction.specs.Digits.{is_numeral, number_of}
 use Rattle.def_command.specs.Words.{is_option, is_word}
 use Rattle.def_command.specs.Table as table
-use Rattle.def_command.specs.Table.{CommandName, OptionName, Rounds, Every, Scale, Workers, Atomic, built_commands, built_options, command_word, least_plain, most_plain, takes, option_name, least_number, most_number, default_number}
+use Rattle.def_command.specs.Table.{CommandName, OptionName, Rounds, Every, Scale, Workers, Atomic, built_commands}
+use Rattle.def_command.specs.Table.{built_options, command_word, least_plain, most_plain, takes, option_name}
+use Rattle.def_command.specs.Table.{least_number, most_number, default_number}
 
 -- how many rounds are played, after how many of them the plans are evaluated, and the scale of a plan
 pub record Settings : Type 0 where

@@ -1,6 +1,7 @@
 -- Worked rows: words that are taken, with their command, and words that aren't.
 use Rattle.std.specs.Prelude.{◌≡◌, ℕ, Bool, true, false, List, [], ◌∷◌, ◌++◌, Option, Some, None, codes}
-use Rattle.def_command.specs.Grammar.{Command, RowSettings, Solve, Check, Upgrade, Info, Gen, Drill, Plus, Batch, command_of_words}
+use Rattle.def_command.specs.Grammar.{Command, RowSettings, Solve, Check, Upgrade, Info, Gen, Drill, Plus, Batch}
+use Rattle.def_command.specs.Grammar.{command_of_words}
 
 abbrev file : List ℕ
 file = codes "F1"
@@ -71,7 +72,8 @@ pub record TakenRows : Type 0 where
   pub solve_past_plus_scale : solve_with (codes "--scale=16385" ∷ []) ≡ solve_file 1000 1000 16385
   pub atomic : solve_with (codes "--atomic=1" ∷ [])
       ≡ Some (Solve file (record { rounds = 1000; every = 1000; scale = 1048576 }) (rows_with None true))
-  pub atomic_two_words : command_of_words (codes "solve" ∷ codes "--atomic" ∷ codes "1" ∷ file ∷ codes "--workers=3" ∷ [])
+  pub atomic_two_words : command_of_words (codes "solve" ∷ codes "--atomic" ∷ codes "1" ∷ file ∷ codes "--workers=3"
+      ∷ [])
       ≡ Some (Solve file (record { rounds = 1000; every = 1000; scale = 1048576 }) (rows_with (Some 3) true))
   pub not_atomic : solve_with (codes "--atomic=0" ∷ []) ≡ solve_file 1000 1000 1048576
   pub not_atomic_two_words : plus_with (codes "--atomic" ∷ codes "0" ∷ []) ≡ plus_file 1000 1000 16384

@@ -32,11 +32,13 @@ one_best : (tables : Tables) (tree : Forest) → IsCompleteGame tables tree → 
 one_best tables tree game One root against best other q is it =
     let low : (f : Fraction) → IsBestPayoff One tables tree against f → IsInLowestTerms f =
     λ f h. subst IsInLowestTerms h.attained (expected_payoff-lowest tables tree game h.root root h.reply against (record { one = h.is_plan; two = q }) One) in
-    same-both_ways best other (low best is) (low other it) (subst (λ f. IsAtMost f other) is.attained (it.most is.root is.reply is.is_plan)) (subst (λ f. IsAtMost f best) it.attained (is.most it.root it.reply it.is_plan))
+    same-both_ways best other (low best is) (low other it) (subst (λ f. IsAtMost f other) is.attained (it.most is.root is.reply is.is_plan))
+    (subst (λ f. IsAtMost f best) it.attained (is.most it.root it.reply it.is_plan))
 one_best tables tree game Two root against best other p is it =
     let low : (f : Fraction) → IsBestPayoff Two tables tree against f → IsInLowestTerms f =
     λ f h. subst IsInLowestTerms h.attained (expected_payoff-lowest tables tree game root h.root against h.reply (record { one = p; two = h.is_plan }) Two) in
-    same-both_ways best other (low best is) (low other it) (subst (λ f. IsAtMost f other) is.attained (it.most is.root is.reply is.is_plan)) (subst (λ f. IsAtMost f best) it.attained (is.most it.root it.reply it.is_plan))
+    same-both_ways best other (low best is) (low other it) (subst (λ f. IsAtMost f other) is.attained (it.most is.root is.reply is.is_plan))
+    (subst (λ f. IsAtMost f best) it.attained (is.most it.root it.reply it.is_plan))
 
 -- player one's best payoff against a plan of player two, in weights
 module _ (tables : Tables) (tree : Forest) (game : IsCompleteGame tables tree) (root_two : ℕ) (y : List ℕ)
@@ -73,8 +75,10 @@ module _ (tables : Tables) (tree : Forest) (game : IsCompleteGame tables tree) (
             (subst (λ w. Is w best_of) (one-*ℤ best) (best-times 1));
         most = λ root x p.
             let those : ArePlans tables tree root root_two x y = record { one = p; two = q } in
-            (times-order (scale tables tree game root root_two x y those) (expected_payoff One tables tree x y) best_of (pay (form_of_game tables tree).leaves x y) (pos root *ℤ best)
-            (scale_some tables tree game root root_two x y those) (expected_payoff-lowest tables tree game root root_two x y those One).positive best-lowest.positive
+            (times-order (scale tables tree game root root_two x y those) (expected_payoff One tables tree x y) best_of
+            (pay (form_of_game tables tree).leaves x y) (pos root *ℤ best)
+            (scale_some tables tree game root root_two x y those) (expected_payoff-lowest tables tree game root root_two x y those One).positive
+            best-lowest.positive
             (paid-times tables tree game root root_two x y those) (best-times root)).1 (is.ceiling root x p);
       }
 
@@ -100,8 +104,10 @@ module _ (tables : Tables) (tree : Forest) (game : IsCompleteGame tables tree) (
   sure_of_left : IsLeft (form_of_game tables tree) x left → IsSureOf One tables tree x left_of
   sure_of_left is root y q =
       let those : ArePlans tables tree root_one root x y = record { one = p; two = q } in
-      (times-order (scale tables tree game root_one root x y those) left_of (expected_payoff One tables tree x y) (pos root *ℤ left) (pay (form_of_game tables tree).leaves x y)
-      (scale_some tables tree game root_one root x y those) left-lowest.positive (expected_payoff-lowest tables tree game root_one root x y those One).positive (left-times root)
+      (times-order (scale tables tree game root_one root x y those) left_of (expected_payoff One tables tree x y) (pos root *ℤ left)
+      (pay (form_of_game tables tree).leaves x y)
+      (scale_some tables tree game root_one root x y those) left-lowest.positive (expected_payoff-lowest tables tree game root_one root x y those One).positive
+      (left-times root)
       (paid-times tables tree game root_one root x y those)).1 (is.floor root y q)
 
   pub rest_payoff : IsConstantSum tables tree → IsLeft (form_of_game tables tree) x left
@@ -114,13 +120,15 @@ module _ (tables : Tables) (tree : Forest) (game : IsCompleteGame tables tree) (
       let same : one ≡ left_of =
       times-same (scale tables tree game root_one 1 x reply plans) one left_of left (scale_some tables tree game root_one 1 x reply plans)
       (expected_payoff-lowest tables tree game root_one 1 x reply plans One) left-lowest
-      (subst (λ w. Is w one) is.attained.pays (paid-times tables tree game root_one 1 x reply plans)) (subst (λ w. Is w left_of) (one-*ℤ left) (left-times 1)) in
+      (subst (λ w. Is w one) is.attained.pays (paid-times tables tree game root_one 1 x reply plans))
+      (subst (λ w. Is w left_of) (one-*ℤ left) (left-times 1)) in
       record {
         root = 1;
         reply = reply;
         is_plan = is.attained.is_plan;
         attained = two-left tables tree game root_one 1 x reply plans constant ∙ ap (difference_of (game_sum tables tree)) same;
-        most = (each_bounds_the_other tables tree (record { complete = game; constant_sum = constant }) One root_one x p left_of left-lowest.positive).sure.0 (sure_of_left is);
+        most = (each_bounds_the_other tables tree (record { complete = game; constant_sum = constant }) One root_one x p left_of left-lowest.positive).sure.0
+            (sure_of_left is);
       }
 
 pub best_payoffs : BestPayoffsInWeights
@@ -181,17 +189,20 @@ module _ (tables : Tables) (tree : Forest) (game : IsConstantGame tables tree) (
   two_best-times : IsTimes (pos all) (difference_of given left) (sum -ℤ pos root_two *ℤ is.left)
   two_best-times = times-difference (pos all) given left sum (pos root_two *ℤ is.left) some_given low_left.positive sum-times times_left
 
-  gains : sum_of (difference_of best (expected_payoff One tables tree x y)) (difference_of (difference_of given left) (expected_payoff Two tables tree x y)) ≡ fraction_of gap all
+  gains : sum_of (difference_of best (expected_payoff One tables tree x y)) (difference_of (difference_of given left) (expected_payoff Two tables tree x y))
+      ≡ fraction_of gap all
   gains =
       let one : Fraction = difference_of best (expected_payoff One tables tree x y) in
       let two : Fraction = difference_of (difference_of given left) (expected_payoff Two tables tree x y) in
       let some_one : 1 ≤ one.den = (difference-lowest best (expected_payoff One tables tree x y) low_best.positive (some_expected One)).positive in
-      let some_two : 1 ≤ two.den = (difference-lowest (difference_of given left) (expected_payoff Two tables tree x y) two_best-lowest.positive (some_expected Two)).positive in
+      let some_two : 1 ≤ two.den = (difference-lowest (difference_of given left) (expected_payoff Two tables tree x y) two_best-lowest.positive
+      (some_expected Two)).positive in
       let one_gains : IsTimes (pos all) one (pos root_one *ℤ is.best -ℤ paid_one) =
       times-difference (pos all) best (expected_payoff One tables tree x y) (pos root_one *ℤ is.best) paid_one low_best.positive (some_expected One) times_best
       (paid-times tables tree game.complete root_one root_two x y are) in
       let two_gains : IsTimes (pos all) two ((sum -ℤ pos root_two *ℤ is.left) -ℤ (sum -ℤ paid_one)) =
-      times-difference (pos all) (difference_of given left) (expected_payoff Two tables tree x y) (sum -ℤ pos root_two *ℤ is.left) (sum -ℤ paid_one) two_best-lowest.positive (some_expected Two) two_best-times
+      times-difference (pos all) (difference_of given left) (expected_payoff Two tables tree x y) (sum -ℤ pos root_two *ℤ is.left) (sum -ℤ paid_one)
+      two_best-lowest.positive (some_expected Two) two_best-times
       (two-times tables tree game.complete root_one root_two x y are game.constant_sum) in
       let both : IsTimes (pos all) (sum_of one two) gap =
       subst (IsTimes (pos all) (sum_of one two)) (cancel (pos root_one *ℤ is.best) (pos root_two *ℤ is.left) sum paid_one ∙ sym is.is)
@@ -206,7 +217,8 @@ module _ (tables : Tables) (tree : Forest) (game : IsConstantGame tables tree) (
       let both : Fraction = sum_of best (difference_of given left) in
       let some_both : 1 ≤ both.den = (lowest-sum best (difference_of given left) low_best.positive two_best-lowest.positive).positive in
       let both-times : IsTimes (pos all) both (pos root_one *ℤ is.best +ℤ (sum -ℤ pos root_two *ℤ is.left)) =
-      times-sum (pos all) best (difference_of given left) (pos root_one *ℤ is.best) (sum -ℤ pos root_two *ℤ is.left) low_best.positive two_best-lowest.positive times_best two_best-times in
+      times-sum (pos all) best (difference_of given left) (pos root_one *ℤ is.best) (sum -ℤ pos root_two *ℤ is.left) low_best.positive two_best-lowest.positive
+      times_best two_best-times in
       let less : IsTimes (pos all) (difference_of both given) gap =
       subst (IsTimes (pos all) (difference_of both given)) (cancel (pos root_one *ℤ is.best) (pos root_two *ℤ is.left) sum ∙ sym is.is)
       (times-difference (pos all) both given _ sum some_both some_given both-times sum-times) in

@@ -27,7 +27,8 @@ module _ (tables : Tables) (h : AreFractions tables) where
   pub probabilities-some : (set : ℕ) → All (λ (f : Fraction). 1 ≤ f.den) (probabilities tables set)
   probabilities-some set =
       let Low : Fraction → Type 0 = IsInLowestTerms in
-      All-weaker Low (λ f. 1 ≤ f.den) (λ f low. low.positive) (probabilities tables set) (at-or (λ row. All Low row) tables.chance (set - 1) [] h.chance (All-nil Low))
+      All-weaker Low (λ f. 1 ≤ f.den) (λ f low. low.positive) (probabilities tables set)
+      (at-or (λ row. All Low row) tables.chance (set - 1) [] h.chance (All-nil Low))
 
   probability-some : (set action : ℕ) → 1 ≤ (probability tables set action).den
   probability-some set action = at-or (λ (f : Fraction). 1 ≤ f.den) (probabilities tables set) (action - 1) zero_fraction (probabilities-some set) (omega arith)
@@ -36,8 +37,10 @@ module _ (tables : Tables) (h : AreFractions tables) where
   pub reach-lowest : (path : List Move) → IsInLowestTerms (reach tables path)
   reach-lowest [] = certain-lowest
   reach-lowest (step ∷ rest) =
-      elim (is_same_kind Chance step.node.kind) as (λ b. IsInLowestTerms (cond b (product_of (reach tables rest) (probability tables step.node.set step.action)) (reach tables rest))) [
-        | true ↦ product-lowest (reach tables rest) (probability tables step.node.set step.action) (reach-lowest rest).positive (probability-some step.node.set step.action)
+      elim (is_same_kind Chance step.node.kind) as (λ b. IsInLowestTerms (cond b (product_of (reach tables rest) (probability tables step.node.set step.action))
+      (reach tables rest))) [
+        | true ↦ product-lowest (reach tables rest) (probability tables step.node.set step.action) (reach-lowest rest).positive
+            (probability-some step.node.set step.action)
         | false ↦ reach-lowest rest
       ]
 
@@ -46,7 +49,8 @@ module _ (tables : Tables) (h : AreFractions tables) where
       → All (λ payoffs. IsInLowestTerms (of payoffs)) tables.outcomes → (outcome : ℕ) → 1 ≤ (of (payoffs_of tables outcome)).den
   given-some of none all zero = subst (λ (f : Fraction). 1 ≤ f.den) (sym none) (omega arith)
   given-some of none all (suc outcome) =
-      at-or (λ payoffs. 1 ≤ (of payoffs).den) tables.outcomes outcome (record { one = zero_fraction; two = zero_fraction }) (λ k d there. (all k d there).positive)
+      at-or (λ payoffs. 1 ≤ (of payoffs).den) tables.outcomes outcome (record { one = zero_fraction; two = zero_fraction })
+      (λ k d there. (all k d there).positive)
       (subst (λ (f : Fraction). 1 ≤ f.den) (sym none) (omega arith))
 
   payoff-lowest : (of : PayoffPair → Fraction) → ((outcome : ℕ) → 1 ≤ (of (payoffs_of tables outcome)).den) → (v : Visit)
@@ -55,7 +59,8 @@ module _ (tables : Tables) (h : AreFractions tables) where
     where
       on_path : (path : List Move) → 1 ≤ (path_payoff of tables path).den
       on_path [] = omega arith
-      on_path (step ∷ rest) = (lowest-sum (path_payoff of tables rest) (of (payoffs_of tables step.node.outcome)) (on_path rest) (some step.node.outcome)).positive
+      on_path (step ∷ rest) = (lowest-sum (path_payoff of tables rest) (of (payoffs_of tables step.node.outcome)) (on_path rest)
+          (some step.node.outcome)).positive
 
   pub payoff_of-lowest : (player : Player) (v : Visit) → IsInLowestTerms (payoff_of player tables v)
   payoff_of-lowest One v = payoff-lowest (λ payoffs. payoffs.one) (given-some (λ payoffs. payoffs.one) refl (λ k d there. (h.outcomes k d there).0)) v

@@ -64,7 +64,8 @@ module _ (tables : Tables) (tree : Forest) (game : IsCompleteGame tables tree) (
   units_divide : All (λ v. (expected tables v).den ∣ game_unit tables tree) (leaf_visits tree)
   units_divide k d there =
       let Divides : Fraction → Type 0 = λ f. f.den ∣ game_unit tables tree in
-      let all : All Divides (all_expected tables tree) = All-tail Divides (game_sum tables tree) (all_expected tables tree) (den-divides (all_fractions tables tree) (fractions-lowest tables tree game.fractions)) in
+      let all : All Divides (all_expected tables tree) = All-tail Divides (game_sum tables tree) (all_expected tables tree)
+      (den-divides (all_fractions tables tree) (fractions-lowest tables tree game.fractions)) in
       let here = all k (expected tables d) (omega (arith, length-map (leaf_visits tree) (expected tables))) in
       rw (get_or-map (expected tables) (leaf_visits tree) k d (expected tables d) there) at here
 
@@ -84,9 +85,11 @@ module _ (tables : Tables) (tree : Forest) (game : IsCompleteGame tables tree) (
       let some_payoff : 1 ≤ payoff.den = (payoff_of-lowest tables game.fractions One v).positive in
       let weighed : IsTimes (pos (root_one * root_two) *ℤ pos unit) (expected tables v) (pos (root_one * root_two) *ℤ w) =
       times-scaled (pos (root_one * root_two)) (pos unit) (expected tables v) w (whole-weight unit (expected tables v) divides) in
-      let dealt : IsTimes (w *ℤ pos (root_one * root_two)) plans (w *ℤ n) = times-scaled w (pos (root_one * root_two)) plans n (part-times tables tree game root_one root_two x y are v) in
+      let dealt : IsTimes (w *ℤ pos (root_one * root_two)) plans (w *ℤ n) = times-scaled w (pos (root_one * root_two)) plans n
+      (part-times tables tree game root_one root_two x y are v) in
       let both : IsTimes (pos (root_one * root_two) *ℤ pos unit) (product_of (expected tables v) plans) (w *ℤ n) =
-      times-product (pos (root_one * root_two) *ℤ pos unit) (expected tables v) plans (pos (root_one * root_two) *ℤ w) (w *ℤ n) (product-lowest chance payoff some_chance some_payoff).positive some_plans weighed
+      times-product (pos (root_one * root_two) *ℤ pos unit) (expected tables v) plans (pos (root_one * root_two) *ℤ w) (w *ℤ n)
+      (product-lowest chance payoff some_chance some_payoff).positive some_plans weighed
       (subst (λ z. IsTimes z plans (w *ℤ n)) (*ℤ_comm w (pos (root_one * root_two))) dealt) in
       subst (λ f. IsTimes (pos scale) f (w *ℤ n)) (product-swapped chance payoff plans some_chance some_payoff some_plans)
       (subst (λ c. IsTimes c (product_of (expected tables v) plans) (w *ℤ n)) (*ℤ_comm (pos (root_one * root_two)) (pos unit)) both)
@@ -95,10 +98,12 @@ module _ (tables : Tables) (tree : Forest) (game : IsCompleteGame tables tree) (
   pub paid-times : IsTimes (pos scale) (expected_payoff One tables tree x y) (pay (form_of_game tables tree).leaves x y)
   paid-times =
       rw (pay_along tables tree x y (game_unit tables tree) (leaf_visits tree))
-      (times-sum_over (pos scale) (paid_at One) weighed_at (leaf_visits tree) (λ v. (paid_at-lowest One v).positive) (λ k d there. paid_at-times (get_or (leaf_visits tree) k d) (units_divide k d there)))
+      (times-sum_over (pos scale) (paid_at One) weighed_at (leaf_visits tree) (λ v. (paid_at-lowest One v).positive)
+      (λ k d there. paid_at-times (get_or (leaf_visits tree) k d) (units_divide k d there)))
 
   pub in_weights : expected_payoff One tables tree x y ≡ fraction_of (pay (form_of_game tables tree).leaves x y) scale
-  in_weights = sym (fraction_of-value (expected_payoff One tables tree x y) (pay (form_of_game tables tree).leaves x y) scale (expected_payoff-lowest One) scale_some (sym paid-times))
+  in_weights = sym (fraction_of-value (expected_payoff One tables tree x y) (pay (form_of_game tables tree).leaves x y) scale (expected_payoff-lowest One)
+      scale_some (sym paid-times))
 
   -- a number that makes the leaves' payoffs whole
   abbrev all_payoffs : List Fraction
@@ -110,12 +115,15 @@ module _ (tables : Tables) (tree : Forest) (game : IsCompleteGame tables tree) (
   payoffs_lowest : All IsInLowestTerms all_payoffs
   payoffs_lowest =
       let each : (player : Player) → All IsInLowestTerms (map (payoff_of player tables) (leaf_visits tree)) =
-      λ player. All-map IsInLowestTerms (payoff_of player tables) (leaf_visits tree) (λ k d there. payoff_of-lowest tables game.fractions player (get_or (leaf_visits tree) k d)) in
+      λ player. All-map IsInLowestTerms (payoff_of player tables) (leaf_visits tree)
+      (λ k d there. payoff_of-lowest tables game.fractions player (get_or (leaf_visits tree) k d)) in
       All-append IsInLowestTerms (map (payoff_of One tables) (leaf_visits tree)) (map (payoff_of Two tables) (leaf_visits tree)) (each One) (each Two)
 
   payoffs_divide : (player : Player) → All (λ f. f.den ∣ payoff_unit) (map (payoff_of player tables) (leaf_visits tree))
-  payoffs_divide One = All-front (λ (f : Fraction). f.den ∣ payoff_unit) (map (payoff_of One tables) (leaf_visits tree)) (map (payoff_of Two tables) (leaf_visits tree)) (den-divides all_payoffs payoffs_lowest)
-  payoffs_divide Two = All-behind (λ (f : Fraction). f.den ∣ payoff_unit) (map (payoff_of One tables) (leaf_visits tree)) (map (payoff_of Two tables) (leaf_visits tree)) (den-divides all_payoffs payoffs_lowest)
+  payoffs_divide One = All-front (λ (f : Fraction). f.den ∣ payoff_unit) (map (payoff_of One tables) (leaf_visits tree))
+      (map (payoff_of Two tables) (leaf_visits tree)) (den-divides all_payoffs payoffs_lowest)
+  payoffs_divide Two = All-behind (λ (f : Fraction). f.den ∣ payoff_unit) (map (payoff_of One tables) (leaf_visits tree))
+      (map (payoff_of Two tables) (leaf_visits tree)) (den-divides all_payoffs payoffs_lowest)
 
   abbrev whole_payoff : Player → Visit → ℤ
   whole_payoff player v = weight_of payoff_unit (payoff_of player tables v)
@@ -123,7 +131,8 @@ module _ (tables : Tables) (tree : Forest) (game : IsCompleteGame tables tree) (
   payoff-times : (player : Player) → All (λ v. IsTimes (pos payoff_unit) (payoff_of player tables v) (whole_payoff player v)) (leaf_visits tree)
   payoff-times player k d there =
       let divides = payoffs_divide player k (payoff_of player tables d) (omega (arith, length-map (leaf_visits tree) (payoff_of player tables))) in
-      whole-weight payoff_unit (payoff_of player tables (get_or (leaf_visits tree) k d)) (rw (get_or-map (payoff_of player tables) (leaf_visits tree) k d (payoff_of player tables d) there) at divides)
+      whole-weight payoff_unit (payoff_of player tables (get_or (leaf_visits tree) k d))
+      (rw (get_or-map (payoff_of player tables) (leaf_visits tree) k d (payoff_of player tables d) there) at divides)
 
   abbrev dealt : Visit → ℤ
   dealt v = dealt_at tables tree game root_one root_two x y are v
@@ -141,9 +150,11 @@ module _ (tables : Tables) (tree : Forest) (game : IsCompleteGame tables tree) (
       (λ k d there.
       let v : Visit = get_or (leaf_visits tree) k d in
       let chance : Fraction = leaf_probability tables tree x y v in
-      times-product (pos whole_units) chance (payoff_of player tables v) (pos payoff_unit *ℤ dealt v) (dealt v *ℤ whole_payoff player v) (probability-lowest tables tree game root_one root_two x y are v).positive
+      times-product (pos whole_units) chance (payoff_of player tables v) (pos payoff_unit *ℤ dealt v) (dealt v *ℤ whole_payoff player v)
+      (probability-lowest tables tree game root_one root_two x y are v).positive
       (payoff_of-lowest tables game.fractions player v).positive
-      (times-scaled (pos payoff_unit) (pos (all_units tables tree game root_one root_two x y are)) chance (dealt v) (probabilities-times tables tree game root_one root_two x y are k d there))
+      (times-scaled (pos payoff_unit) (pos (all_units tables tree game root_one root_two x y are)) chance (dealt v)
+      (probabilities-times tables tree game root_one root_two x y are k d there))
       (subst (λ z. IsTimes z (payoff_of player tables v) (dealt v *ℤ whole_payoff player v)) (*ℤ_comm (dealt v) (pos payoff_unit))
       (times-scaled (dealt v) (pos payoff_unit) (payoff_of player tables v) (whole_payoff player v) (payoff-times player k d there))))
 
@@ -163,10 +174,12 @@ module _ (tables : Tables) (tree : Forest) (game : IsCompleteGame tables tree) (
         let one : ℤ = whole_payoff One v in
         let two : ℤ = whole_payoff Two v in
         let sum : IsTimes (pos payoff_unit) (paid_together tables v) (one +ℤ two) =
-        times-sum (pos payoff_unit) (payoff_of One tables v) (payoff_of Two tables v) one two (payoff_of-lowest tables game.fractions One v).positive (payoff_of-lowest tables game.fractions Two v).positive
+        times-sum (pos payoff_unit) (payoff_of One tables v) (payoff_of Two tables v) one two (payoff_of-lowest tables game.fractions One v).positive
+        (payoff_of-lowest tables game.fractions Two v).positive
         (payoff-times One k d there) (payoff-times Two k d there) in
         let is : IsTimes (pos payoff_unit) given (one +ℤ two) = rw (constant k d there) at sum in
-        ap (λ z. pos given.den *ℤ z) (sym (*ℤ-+ℤ (dealt v) one two)) ∙ *ℤ_comm (pos given.den) (dealt v *ℤ (one +ℤ two)) ∙ *ℤ_assoc (dealt v) (one +ℤ two) (pos given.den)
+        ap (λ z. pos given.den *ℤ z) (sym (*ℤ-+ℤ (dealt v) one two)) ∙ *ℤ_comm (pos given.den) (dealt v *ℤ (one +ℤ two))
+        ∙ *ℤ_assoc (dealt v) (one +ℤ two) (pos given.den)
         ∙ ap (λ z. dealt v *ℤ z) is ∙ *ℤ_comm (dealt v) (given.num *ℤ pos payoff_unit)
 
     given-times : IsTimes (pos whole_units) given (sum_over together_at (leaf_visits tree))
@@ -183,9 +196,11 @@ module _ (tables : Tables) (tree : Forest) (game : IsCompleteGame tables tree) (
     together =
         let one : Fraction = expected_payoff One tables tree x y in
         let two : Fraction = expected_payoff Two tables tree x y in
-        times-same whole_units (sum_of one two) given (sum_over together_at (leaf_visits tree)) whole_some (lowest-sum one two (expected_payoff-lowest One).positive (expected_payoff-lowest Two).positive) given-lowest
+        times-same whole_units (sum_of one two) given (sum_over together_at (leaf_visits tree)) whole_some
+        (lowest-sum one two (expected_payoff-lowest One).positive (expected_payoff-lowest Two).positive) given-lowest
         (rw (sum_over-+ℤ (λ v. dealt v *ℤ whole_payoff One v) (λ v. dealt v *ℤ whole_payoff Two v) (leaf_visits tree))
-        (times-sum (pos whole_units) one two _ _ (expected_payoff-lowest One).positive (expected_payoff-lowest Two).positive (expected-times One) (expected-times Two)))
+        (times-sum (pos whole_units) one two _ _ (expected_payoff-lowest One).positive (expected_payoff-lowest Two).positive (expected-times One)
+        (expected-times Two)))
         given-times
 
     pub given-scaled : IsTimes (pos scale) given (whole_sum tables tree *ℤ pos (root_one * root_two))
@@ -193,16 +208,20 @@ module _ (tables : Tables) (tree : Forest) (game : IsCompleteGame tables tree) (
         let whole : IsTimes (pos (root_one * root_two) *ℤ pos (game_unit tables tree)) given (pos (root_one * root_two) *ℤ whole_sum tables tree) =
         times-scaled (pos (root_one * root_two)) (pos (game_unit tables tree)) given (whole_sum tables tree) (whole-sum tables tree game.fractions) in
         subst (λ c. IsTimes c given (whole_sum tables tree *ℤ pos (root_one * root_two))) (*ℤ_comm (pos (root_one * root_two)) (pos (game_unit tables tree)))
-        (subst (λ z. IsTimes (pos (root_one * root_two) *ℤ pos (game_unit tables tree)) given z) (*ℤ_comm (pos (root_one * root_two)) (whole_sum tables tree)) whole)
+        (subst (λ z. IsTimes (pos (root_one * root_two) *ℤ pos (game_unit tables tree)) given z) (*ℤ_comm (pos (root_one * root_two)) (whole_sum tables tree))
+        whole)
 
     -- player two gets what player one leaves
     pub two-left : expected_payoff Two tables tree x y ≡ difference_of given (expected_payoff One tables tree x y)
-    two-left = rest-of_sum (expected_payoff One tables tree x y) (expected_payoff Two tables tree x y) given (expected_payoff-lowest One).positive (expected_payoff-lowest Two) given-lowest.positive together
+    two-left = rest-of_sum (expected_payoff One tables tree x y) (expected_payoff Two tables tree x y) given (expected_payoff-lowest One).positive
+        (expected_payoff-lowest Two) given-lowest.positive together
 
-    pub two-times : IsTimes (pos scale) (expected_payoff Two tables tree x y) ((whole_sum tables tree *ℤ pos (root_one * root_two)) -ℤ pay (form_of_game tables tree).leaves x y)
+    pub two-times : IsTimes (pos scale) (expected_payoff Two tables tree x y)
+        ((whole_sum tables tree *ℤ pos (root_one * root_two)) -ℤ pay (form_of_game tables tree).leaves x y)
     two-times =
         rw two-left
-        (times-difference (pos scale) given (expected_payoff One tables tree x y) (whole_sum tables tree *ℤ pos (root_one * root_two)) (pay (form_of_game tables tree).leaves x y) given-lowest.positive
+        (times-difference (pos scale) given (expected_payoff One tables tree x y) (whole_sum tables tree *ℤ pos (root_one * root_two))
+        (pay (form_of_game tables tree).leaves x y) given-lowest.positive
         (expected_payoff-lowest One).positive given-scaled paid-times)
 
     pub pay_the_sum : PayTheSum tables tree root_one root_two x y
@@ -210,6 +229,7 @@ module _ (tables : Tables) (tree : Forest) (game : IsCompleteGame tables tree) (
       total = together;
       two = two-left;
       two_in_weights =
-          sym (fraction_of-value (expected_payoff Two tables tree x y) ((whole_sum tables tree *ℤ pos (root_one * root_two)) -ℤ pay (form_of_game tables tree).leaves x y) scale (expected_payoff-lowest Two) scale_some
+          sym (fraction_of-value (expected_payoff Two tables tree x y) ((whole_sum tables tree *ℤ pos (root_one * root_two))
+          -ℤ pay (form_of_game tables tree).leaves x y) scale (expected_payoff-lowest Two) scale_some
           (sym two-times));
     }

@@ -62,15 +62,18 @@ module _ (tables : Tables) (tree : Forest) (game : IsCompleteGame tables tree) (
       let here : ℤ = share tables tree game v.path in
       let numbers : ℤ = pos (numbers_at tree x y v) in
       let chance : IsTimes (pos roots *ℤ pos (common tables tree game)) (reach tables v.path) (pos roots *ℤ here) =
-      times-scaled (pos roots) (pos (common tables tree game)) (reach tables v.path) here (whole-weight (common tables tree game) (reach tables v.path) whole) in
+      times-scaled (pos roots) (pos (common tables tree game)) (reach tables v.path) here
+      (whole-weight (common tables tree game) (reach tables v.path) whole) in
       let plans : IsTimes (pos roots *ℤ here) (part v) (here *ℤ numbers) =
       subst (λ z. IsTimes z (part v) (here *ℤ numbers)) (*ℤ_comm here (pos roots)) (times-scaled here (pos roots) (part v) numbers (part-times v)) in
-      times-product (pos all_units) (reach tables v.path) (part v) (pos roots *ℤ here) (here *ℤ numbers) (reach-lowest tables game.fractions v.path).positive (part-lowest v).positive chance plans
+      times-product (pos all_units) (reach tables v.path) (part v) (pos roots *ℤ here) (here *ℤ numbers) (reach-lowest tables game.fractions v.path).positive
+      (part-lowest v).positive chance plans
 
   pub probabilities-times : All (λ v. IsTimes (pos all_units) (leaf_probability tables tree x y v) (dealt_at v)) (leaf_visits tree)
   probabilities-times =
       All-filter is_leaf (λ v. IsTimes (pos all_units) (leaf_probability tables tree x y v) (dealt_at v)) (visits tree)
-      (All-weaker (λ v. IsWhole tables tree game v.path) (λ v. IsTimes (pos all_units) (leaf_probability tables tree x y v) (dealt_at v)) probability-times (visits tree) (whole_everywhere tables tree game))
+      (All-weaker (λ v. IsWhole tables tree game v.path) (λ v. IsTimes (pos all_units) (leaf_probability tables tree x y v) (dealt_at v)) probability-times
+      (visits tree) (whole_everywhere tables tree game))
 
   pub dealt_sum : sum_over dealt_at (leaf_visits tree) ≡ pos all_units
   dealt_sum = dealt_in_all tables tree game root_one root_two x y are.one are.two ∙ *ℤ_comm (pos (common tables tree game)) (pos roots)
@@ -81,5 +84,6 @@ module _ (tables : Tables) (tree : Forest) (game : IsCompleteGame tables tree) (
       let some : (v : Visit) → 1 ≤ (leaf_probability tables tree x y v).den = λ v. (probability-lowest v).positive in
       let sum : IsTimes (pos all_units) (fraction_sum (leaf_probability tables tree x y) (leaf_visits tree)) (sum_over dealt_at (leaf_visits tree)) =
       times-sum_over (pos all_units) (leaf_probability tables tree x y) dealt_at (leaf_visits tree) some probabilities-times in
-      times-same all_units (fraction_sum (leaf_probability tables tree x y) (leaf_visits tree)) certain (pos all_units) all_units_some (sum-lowest (leaf_probability tables tree x y) (leaf_visits tree) some) certain-lowest
+      times-same all_units (fraction_sum (leaf_probability tables tree x y) (leaf_visits tree)) certain (pos all_units) all_units_some
+      (sum-lowest (leaf_probability tables tree x y) (leaf_visits tree) some) certain-lowest
       (rw dealt_sum at sum) (*ℤ_comm (pos all_units) (pos 1))

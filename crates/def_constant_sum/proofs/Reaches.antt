@@ -1,5 +1,6 @@
 -- Reach times both players' numbers along the paths of a game: at each node these are the children's added up.
-use Rattle.std.proofs.Common.{◌≡◌, ℕ, ◌+◌, ◌-◌, ◌*◌, ◌<◌, ◌≤◌, true, false, cond, List, [], ◌∷◌, length, get_or, slice_index, take, map, refl, ap, sym, subst, ◌∙◌, arith}
+use Rattle.std.proofs.Common.{◌≡◌, ℕ, ◌+◌, ◌-◌, ◌*◌, ◌<◌, ◌≤◌, true, false, cond, List, [], ◌∷◌, length, get_or, slice_index, take, map, refl, ap, sym, subst}
+use Rattle.std.proofs.Common.{◌∙◌, arith}
 use Rattle.std.specs.Prelude.{ℤ, pos, ◌+ℤ◌, ◌*ℤ◌, All}
 use Rattle.std.specs.List.{range_with_len}
 use Prim.Native.Nat.{◌∣◌}
@@ -50,7 +51,8 @@ module _ (tables : Tables) (tree : Forest) (game : IsCompleteGame tables tree) w
       → number_on kind plan (onward v action) ≡ slice_index plan (first_sequence (set_sizes kind tree) v.node.set + (action - 1))
   number_own kind plan v action is =
       let choice : Choice = record { set = v.node.set; action = action } in
-      ap (λ b. slice_index plan (sequence_number (set_sizes kind tree) (cond b (choice ∷ own_choices kind v.path) (own_choices kind v.path)))) (is_same_kind_self kind v.node.kind is)
+      ap (λ b. slice_index plan (sequence_number (set_sizes kind tree) (cond b (choice ∷ own_choices kind v.path) (own_choices kind v.path))))
+      (is_same_kind_self kind v.node.kind is)
 
   number_other : (kind : Kind) (plan : List ℕ) (v : Visit) (action : ℕ) → is_same_kind kind v.node.kind ≡ false
       → number_on kind plan (onward v action) ≡ number_on kind plan v.path
@@ -60,7 +62,8 @@ module _ (tables : Tables) (tree : Forest) (game : IsCompleteGame tables tree) w
 
   reach_chance : (v : Visit) (action : ℕ) → v.node.kind ≡ Chance
       → reach tables (onward v action) ≡ product_of (reach tables v.path) (probability tables v.node.set action)
-  reach_chance v action is = ap (λ b. cond b (product_of (reach tables v.path) (probability tables v.node.set action)) (reach tables v.path)) (is_same_kind_self Chance v.node.kind is)
+  reach_chance v action is = ap (λ b. cond b (product_of (reach tables v.path) (probability tables v.node.set action)) (reach tables v.path))
+      (is_same_kind_self Chance v.node.kind is)
 
   reach_other : (v : Visit) (action : ℕ) → is_same_kind Chance v.node.kind ≡ false
       → reach tables (onward v action) ≡ reach tables v.path
@@ -70,7 +73,8 @@ module _ (tables : Tables) (tree : Forest) (game : IsCompleteGame tables tree) w
   dealt_on : (kind : Kind) (root : ℕ) (plan : List ℕ) (k : ℕ) (d : Visit) → is_personal kind ≡ true
       → IsPlan (information_sets kind tree) root plan → k < length (visits tree) → (get_or (visits tree) k d).node.kind ≡ kind →
       let v = get_or (visits tree) k d in
-      sum_over (λ a. pos (slice_index plan (first_sequence (set_sizes kind tree) v.node.set + (a - 1)))) (range_with_len 1 v.node.children) ≡ pos (number_on kind plan v.path)
+      sum_over (λ a. pos (slice_index plan (first_sequence (set_sizes kind tree) v.node.set + (a - 1)))) (range_with_len 1 v.node.children)
+      ≡ pos (number_on kind plan v.path)
   dealt_on kind root plan k d personal p there is =
       let v : Visit = get_or (visits tree) k d in
       let sets : List InformationSet = information_sets kind tree in
@@ -88,10 +92,14 @@ module _ (tables : Tables) (tree : Forest) (game : IsCompleteGame tables tree) w
       let h : PlacedSet = get_or (placed sets) place nowhere in
       let first : h.first ≡ first_sequence sizes v.node.set =
       ap (λ (g : PlacedSet). g.first) (as_tree.places place nowhere low) ∙ ap (first_sequence sizes) (omega arith) in
-      let set : get_or sets place none ≡ record { before = sequence_at kind tree v; actions = v.node.children } = sets_have_their_nodes tree game.game_tree game.recall kind personal none k d there is in
-      let actions : h.actions ≡ v.node.children = ap (λ (g : PlacedSet). g.actions) (at-placed 1 sets place nowhere none low) ∙ ap (λ (g : InformationSet). g.actions) set in
-      let before : h.before ≡ sequence_at kind tree v = ap (λ (g : PlacedSet). g.before) (at-placed 1 sets place nowhere none low) ∙ ap (λ (g : InformationSet). g.before) set in
-      let adds : nat_sum_over (λ s. slice_index plan s) (sequences_of h) ≡ slice_index plan h.before = p.each_set place nowhere (omega (arith, length-placed 1 sets)) in
+      let set : get_or sets place none ≡ record { before = sequence_at kind tree v; actions = v.node.children } = sets_have_their_nodes tree game.game_tree
+      game.recall kind personal none k d there is in
+      let actions : h.actions ≡ v.node.children = ap (λ (g : PlacedSet). g.actions) (at-placed 1 sets place nowhere none low)
+      ∙ ap (λ (g : InformationSet). g.actions) set in
+      let before : h.before ≡ sequence_at kind tree v = ap (λ (g : PlacedSet). g.before) (at-placed 1 sets place nowhere none low)
+      ∙ ap (λ (g : InformationSet). g.before) set in
+      let adds : nat_sum_over (λ s. slice_index plan s) (sequences_of h) ≡ slice_index plan h.before = p.each_set place nowhere
+      (omega (arith, length-placed 1 sets)) in
       let f : ℕ → ℤ = λ s. pos (slice_index plan s) in
       let none_more : first_sequence sizes v.node.set + 0 ≡ h.first = omega (arith, first) in
       sum_over-shifted f (first_sequence sizes v.node.set) 0 v.node.children
@@ -108,7 +116,8 @@ module _ (tables : Tables) (tree : Forest) (game : IsCompleteGame tables tree) w
   IsWhole path = (reach tables path).den ∣ common
 
   reaches_lowest : All IsInLowestTerms (map (λ v. reach tables v.path) (visits tree))
-  reaches_lowest = All-map IsInLowestTerms (λ (v : Visit). reach tables v.path) (visits tree) (λ k d there. reach-lowest tables game.fractions (get_or (visits tree) k d).path)
+  reaches_lowest = All-map IsInLowestTerms (λ (v : Visit). reach tables v.path) (visits tree)
+      (λ k d there. reach-lowest tables game.fractions (get_or (visits tree) k d).path)
 
   pub common_some : 1 ≤ common
   common_some = unit-positive (map (λ v. reach tables v.path) (visits tree)) reaches_lowest
@@ -136,14 +145,17 @@ module _ (tables : Tables) (tree : Forest) (game : IsCompleteGame tables tree) w
       λ i low.
       let before : 1 + i - 1 ≡ i = omega arith in
       let child : IsTimes (pos common) (reach tables (onward v (1 + i))) (share (onward v (1 + i))) =
-      whole-weight common (reach tables (onward v (1 + i))) (range-All (λ a. IsWhole (onward v a)) 1 (length fs) children (1 + i) (omega arith) (omega arith)) in
+      whole-weight common (reach tables (onward v (1 + i))) (range-All (λ a. IsWhole (onward v a)) 1 (length fs) children (1 + i) (omega arith)
+      (omega arith)) in
       let reached : reach tables (onward v (1 + i)) ≡ product_of (reach tables v.path) (get_or fs i zero_fraction) =
       reach_chance v (1 + i) is ∙ ap (λ n. product_of (reach tables v.path) (get_or fs n zero_fraction)) before in
-      product-times (pos common) (reach tables v.path) (get_or fs i zero_fraction) (share v.path) (share (onward v (1 + i))) (reach-lowest tables game.fractions v.path).positive
+      product-times (pos common) (reach tables v.path) (get_or fs i zero_fraction) (share v.path) (share (onward v (1 + i)))
+      (reach-lowest tables game.fractions v.path).positive
       (probabilities-some tables game.fractions v.node.set i zero_fraction low) here
       (subst (λ (f : Fraction). IsTimes (pos common) f (share (onward v (1 + i)))) reached child) in
       let all : IsTimes (share v.path) (sum_from zero_fraction fs) (pos 0 +ℤ total) =
-      times-sum_from (share v.path) zero_fraction fs zero_fraction (pos 0) (λ a. share (onward v a)) 1 (omega arith) (probabilities-some tables game.fractions v.node.set)
+      times-sum_from (share v.path) zero_fraction fs zero_fraction (pos 0) (λ a. share (onward v a)) 1 (omega arith)
+      (probabilities-some tables game.fractions v.node.set)
       (zero-*ℤ (pos 1) ∙ sym (zero-*ℤ (share v.path))) step in
       let one : (pos 0 +ℤ total) *ℤ pos 1 ≡ pos 1 *ℤ share v.path = subst (λ (f : Fraction). IsTimes (share v.path) f (pos 0 +ℤ total)) chances.total all in
       ap (λ n. sum_over (λ a. share (onward v a)) (range_with_len 1 n)) (sym chances.count)
@@ -157,7 +169,8 @@ module _ (tables : Tables) (tree : Forest) (game : IsCompleteGame tables tree) w
       let nodes : map visited_node (visits tree) ≡ prefix tree = map-visits_from (λ _. []) 1 tree in
       let many : length (prefix tree) ≡ length (visits tree) = sym (ap length nodes) ∙ length-map (visits tree) visited_node in
       let is : get_or (prefix tree) k d.node ≡ v.node = ap (λ ns. get_or ns k d.node) (sym nodes) ∙ get_or-map visited_node (visits tree) k d d.node there in
-      let fits : FitsAs (get_or (prefix tree) k d.node).kind (take k (prefix tree)) (get_or (prefix tree) k d.node) = game.game_tree.rules k d.node (omega arith) in
+      let fits : FitsAs (get_or (prefix tree) k d.node).kind (take k (prefix tree)) (get_or (prefix tree) k d.node) = game.game_tree.rules k d.node
+      (omega arith) in
       bare_leaf (take k (prefix tree)) v.node v.node.kind leaf (subst (λ (n : Node). FitsAs n.kind (take k (prefix tree)) n) is fits)
     where
       bare_leaf : (before : List Node) (node : Node) (kind : Kind) → is_leaf_kind kind ≡ true → FitsAs kind before node → node.children ≡ 0
@@ -243,7 +256,8 @@ module _ (tables : Tables) (tree : Forest) (game : IsCompleteGame tables tree) w
     -- over all leaves that makes the roots times what all of chance is
     pub dealt_in_all : sum_over (λ v. dealt_to v.path) (leaf_visits tree) ≡ pos common *ℤ pos (root_one * root_two)
     dealt_in_all =
-        let whole : share [] ≡ pos common = same-without 1 (share []) (pos common) (omega arith) (whole-weight common certain (one-dvd common) ∙ *ℤ_comm (pos 1) (pos common)) in
+        let whole : share [] ≡ pos common = same-without 1 (share []) (pos common) (omega arith)
+        (whole-weight common certain (one-dvd common) ∙ *ℤ_comm (pos 1) (pos common)) in
         sum_over-filter (λ (v : Visit). dealt_to v.path) is_leaf (visits tree)
         ∙ forest_sum dealt_to IsWhole (λ _. []) 1 tree game.game_tree.tree.children whole_everywhere splits
         ∙ ap (λ n. sum_over (λ a. dealt_to []) (range_with_len 1 n)) game.game_tree.tree.one

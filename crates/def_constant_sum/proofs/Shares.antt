@@ -22,7 +22,8 @@ times-sum_from c running (f ∷ fs) d w n k some all is each =
     let some_f : 1 ≤ f.den = All-head (λ (g : Fraction). 1 ≤ g.den) f fs all in
     let later : (i : ℕ) → i < length fs → IsTimes c (get_or fs i d) (n (k + 1 + i)) =
     λ i low. let next : n (k + suc i) ≡ n (k + 1 + i) = ap n (omega arith) in rw next at (each (suc i) (omega arith)) in
-    let rest = times-sum_from c (sum_of running f) fs d (w +ℤ n k) n (k + 1) (lowest-sum running f some some_f).positive (All-tail (λ (g : Fraction). 1 ≤ g.den) f fs all) (times-sum c running f w (n k) some some_f is here) later in
+    let rest = times-sum_from c (sum_of running f) fs d (w +ℤ n k) n (k + 1) (lowest-sum running f some some_f).positive
+    (All-tail (λ (g : Fraction). 1 ≤ g.den) f fs all) (times-sum c running f w (n k) some some_f is here) later in
     ap (λ z. z *ℤ pos (sum_from (sum_of running f) fs).den) (sym (+ℤ_assoc w (n k) (sum_over n (range_with_len (k + 1) (length fs))))) ∙ rest
 
 -- a sum over actions is one over sequences

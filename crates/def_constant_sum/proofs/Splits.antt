@@ -63,11 +63,13 @@ module _ (number : List Move → ℤ) (Has : List Move → Type 0) where
       let all_under = All-front At under later all_rest in
       let count : tree_count below ≡ node.children = children.0 in
       let sum_under : sum_over at_leaf under ≡ sum_over (λ a. number (onward v a)) (range_with_len 1 node.children) =
-      forest_sum down 1 below children.1 all_under (All-front S under later splits_rest) ∙ ap (λ n. sum_over (λ a. number (onward v a)) (range_with_len 1 n)) count in
+      forest_sum down 1 below children.1 all_under (All-front S under later splits_rest)
+      ∙ ap (λ n. sum_over (λ a. number (onward v a)) (range_with_len 1 n)) count in
       let roots : All (λ a. Has (onward v a)) (range_with_len 1 node.children) = rw count at (roots_all Has down 1 below all_under) in
       let here : at_leaf v +ℤ sum_over at_leaf under ≡ number (above action) =
       node_sum v (is_leaf v) (sum_over at_leaf under) refl (All-head S v (under ++ later) splits) (All-head At v (under ++ later) all) roots sum_under in
       ap (λ z. at_leaf v +ℤ z) (sum_over-append at_leaf under later)
       ∙ sym (+ℤ_assoc (at_leaf v) (sum_over at_leaf under) (sum_over at_leaf later))
       ∙ ap (λ z. z +ℤ sum_over at_leaf later) here
-      ∙ ap (λ z. number (above action) +ℤ z) (forest_sum above (action + 1) beside children.2 (All-behind At under later all_rest) (All-behind S under later splits_rest))
+      ∙ ap (λ z. number (above action) +ℤ z) (forest_sum above (action + 1) beside children.2 (All-behind At under later all_rest)
+      (All-behind S under later splits_rest))

@@ -77,7 +77,8 @@ pub product-times : (c : ℤ) (a b : Fraction) (u v : ℤ) → 1 ≤ a.den → 1
 product-times c a b u v some_a some_b e f =
     let whole : v *ℤ (pos a.den *ℤ pos b.den) ≡ (a.num *ℤ b.num) *ℤ c = reduced-times (a.num *ℤ b.num) (a.den * b.den) c v (one-le-mul some_a some_b) f in
     same-without a.den (v *ℤ pos b.den) (b.num *ℤ u) some_a
-    (swap-last v (pos b.den) (pos a.den) ∙ *ℤ_assoc v (pos a.den) (pos b.den) ∙ whole ∙ *ℤ_assoc a.num b.num c ∙ swap-first a.num b.num c ∙ ap (λ z. b.num *ℤ z) (sym e) ∙ sym (*ℤ_assoc b.num u (pos a.den)))
+    (swap-last v (pos b.den) (pos a.den) ∙ *ℤ_assoc v (pos a.den) (pos b.den) ∙ whole ∙ *ℤ_assoc a.num b.num c ∙ swap-first a.num b.num c
+    ∙ ap (λ z. b.num *ℤ z) (sym e) ∙ sym (*ℤ_assoc b.num u (pos a.den)))
 
 -- a factor more on both sides
 pub times-scaled : (k c : ℤ) (f : Fraction) (w : ℤ) → IsTimes c f w → IsTimes (k *ℤ c) f (k *ℤ w)
@@ -89,7 +90,8 @@ pub times-same : (m : ℕ) (f g : Fraction) (w : ℤ) → 1 ≤ m → IsInLowest
 times-same m f g w some low_f low_g e h =
     let value : HasValue f g.num g.den =
     same-without m (f.num *ℤ pos g.den) (g.num *ℤ pos f.den) some
-    (swap-last f.num (pos g.den) (pos m) ∙ ap (λ z. z *ℤ pos g.den) (sym e) ∙ swap-last w (pos f.den) (pos g.den) ∙ ap (λ z. z *ℤ pos f.den) h ∙ swap-last g.num (pos m) (pos f.den)) in
+    (swap-last f.num (pos g.den) (pos m) ∙ ap (λ z. z *ℤ pos g.den) (sym e) ∙ swap-last w (pos f.den) (pos g.den) ∙ ap (λ z. z *ℤ pos f.den) h
+    ∙ swap-last g.num (pos m) (pos f.den)) in
     same_from_value f g low_f low_g value
 
 -- sums of fractions are in lowest terms
@@ -125,7 +127,8 @@ difference-lowest a b some_a some_b = lowest-sum a (over (neg_ℤ b.num) b.den) 
 pub times-order : (m : ℕ) (f g : Fraction) (u v : ℤ) → 1 ≤ m → 1 ≤ f.den → 1 ≤ g.den → IsTimes (pos m) f u
     → IsTimes (pos m) g v → IsAtMost f g ↔ (u ≤ℤ v)
 times-order m f g u v some some_f some_g e h =
-    let left : (f.num *ℤ pos g.den) *ℤ pos m ≡ u *ℤ pos (f.den * g.den) = swap-last f.num (pos g.den) (pos m) ∙ ap (λ z. z *ℤ pos g.den) (sym e) ∙ *ℤ_assoc u (pos f.den) (pos g.den) in
+    let left : (f.num *ℤ pos g.den) *ℤ pos m ≡ u *ℤ pos (f.den * g.den) = swap-last f.num (pos g.den) (pos m) ∙ ap (λ z. z *ℤ pos g.den) (sym e)
+    ∙ *ℤ_assoc u (pos f.den) (pos g.den) in
     let right : (g.num *ℤ pos f.den) *ℤ pos m ≡ v *ℤ pos (f.den * g.den) =
     swap-last g.num (pos f.den) (pos m) ∙ ap (λ z. z *ℤ pos f.den) (sym h) ∙ swap-last v (pos g.den) (pos f.den) ∙ *ℤ_assoc v (pos f.den) (pos g.den) in (
       λ most. *ℤ-cancel_right (f.den * g.den) u v (one-le-mul some_f some_g)
@@ -138,20 +141,24 @@ pub least-times : (m : ℕ) (f g : Fraction) (v : ℤ) → 1 ≤ m → 1 ≤ g.d
     → IsAtMost f g ↔ ((f.num *ℤ pos m) ≤ℤ (v *ℤ pos f.den))
 least-times m f g v some some_g h =
     let left : (f.num *ℤ pos g.den) *ℤ pos m ≡ (f.num *ℤ pos m) *ℤ pos g.den = swap-last f.num (pos g.den) (pos m) in
-    let right : (g.num *ℤ pos f.den) *ℤ pos m ≡ (v *ℤ pos f.den) *ℤ pos g.den = swap-last g.num (pos f.den) (pos m) ∙ ap (λ z. z *ℤ pos f.den) (sym h) ∙ swap-last v (pos g.den) (pos f.den) in (
+    let right : (g.num *ℤ pos f.den) *ℤ pos m ≡ (v *ℤ pos f.den) *ℤ pos g.den = swap-last g.num (pos f.den) (pos m) ∙ ap (λ z. z *ℤ pos f.den) (sym h)
+    ∙ swap-last v (pos g.den) (pos f.den) in (
       λ most. *ℤ-cancel_right g.den (f.num *ℤ pos m) (v *ℤ pos f.den) some_g
           (rw (sym right) (rw (sym left) (*ℤ-mono_right m (f.num *ℤ pos g.den) (g.num *ℤ pos f.den) most))),
-      λ most. *ℤ-cancel_right m (f.num *ℤ pos g.den) (g.num *ℤ pos f.den) some (rw right (rw left (*ℤ-mono_right g.den (f.num *ℤ pos m) (v *ℤ pos f.den) most))),
+      λ most. *ℤ-cancel_right m (f.num *ℤ pos g.den) (g.num *ℤ pos f.den) some
+          (rw right (rw left (*ℤ-mono_right g.den (f.num *ℤ pos m) (v *ℤ pos f.den) most))),
     )
 
 pub most-times : (m : ℕ) (f g : Fraction) (v : ℤ) → 1 ≤ m → 1 ≤ g.den → IsTimes (pos m) g v
     → IsAtMost g f ↔ ((v *ℤ pos f.den) ≤ℤ (f.num *ℤ pos m))
 most-times m f g v some some_g h =
     let left : (f.num *ℤ pos g.den) *ℤ pos m ≡ (f.num *ℤ pos m) *ℤ pos g.den = swap-last f.num (pos g.den) (pos m) in
-    let right : (g.num *ℤ pos f.den) *ℤ pos m ≡ (v *ℤ pos f.den) *ℤ pos g.den = swap-last g.num (pos f.den) (pos m) ∙ ap (λ z. z *ℤ pos f.den) (sym h) ∙ swap-last v (pos g.den) (pos f.den) in (
+    let right : (g.num *ℤ pos f.den) *ℤ pos m ≡ (v *ℤ pos f.den) *ℤ pos g.den = swap-last g.num (pos f.den) (pos m) ∙ ap (λ z. z *ℤ pos f.den) (sym h)
+    ∙ swap-last v (pos g.den) (pos f.den) in (
       λ most. *ℤ-cancel_right g.den (v *ℤ pos f.den) (f.num *ℤ pos m) some_g
           (rw (sym left) (rw (sym right) (*ℤ-mono_right m (g.num *ℤ pos f.den) (f.num *ℤ pos g.den) most))),
-      λ most. *ℤ-cancel_right m (g.num *ℤ pos f.den) (f.num *ℤ pos g.den) some (rw left (rw right (*ℤ-mono_right g.den (v *ℤ pos f.den) (f.num *ℤ pos m) most))),
+      λ most. *ℤ-cancel_right m (g.num *ℤ pos f.den) (f.num *ℤ pos g.den) some
+          (rw left (rw right (*ℤ-mono_right g.den (v *ℤ pos f.den) (f.num *ℤ pos m) most))),
     )
 
 -- of three factors the last two can be swapped
@@ -161,13 +168,16 @@ product-swapped a b c some_a some_b some_c =
     let whole : ℕ = a.den * (b.den * c.den) in
     let first : IsTimes (pos whole) a (a.num *ℤ pos (b.den * c.den)) = times-multiple a (b.den * c.den) in
     times-same whole (product_of (product_of a b) c) (product_of (product_of a c) b) (c.num *ℤ (b.num *ℤ a.num)) (one-le-mul some_a (one-le-mul some_b some_c))
-    (product-lowest (product_of a b) c (product-lowest a b some_a some_b).positive some_c) (product-lowest (product_of a c) b (product-lowest a c some_a some_c).positive some_b)
+    (product-lowest (product_of a b) c (product-lowest a b some_a some_b).positive some_c)
+    (product-lowest (product_of a c) b (product-lowest a c some_a some_c).positive some_b)
     (times-product (pos whole) (product_of a b) c (b.num *ℤ (a.num *ℤ pos c.den)) (c.num *ℤ (b.num *ℤ a.num)) (product-lowest a b some_a some_b).positive some_c
-    (times-product (pos whole) a b (a.num *ℤ pos (b.den * c.den)) (b.num *ℤ (a.num *ℤ pos c.den)) some_a some_b first (step b a.num c.den b.den c.den (*ℤ_comm (pos c.den) (pos b.den))))
+    (times-product (pos whole) a b (a.num *ℤ pos (b.den * c.den)) (b.num *ℤ (a.num *ℤ pos c.den)) some_a some_b first
+    (step b a.num c.den b.den c.den (*ℤ_comm (pos c.den) (pos b.den))))
     (*ℤ_assoc c.num (b.num *ℤ a.num) (pos c.den) ∙ ap (λ z. c.num *ℤ z) (*ℤ_assoc b.num a.num (pos c.den))))
     (times-product (pos whole) (product_of a c) b (c.num *ℤ (a.num *ℤ pos b.den)) (c.num *ℤ (b.num *ℤ a.num)) (product-lowest a c some_a some_c).positive some_b
     (times-product (pos whole) a c (a.num *ℤ pos (b.den * c.den)) (c.num *ℤ (a.num *ℤ pos b.den)) some_a some_c first (step c a.num b.den b.den c.den refl))
-    (ap (λ z. z *ℤ pos b.den) (swap-first c.num b.num a.num) ∙ *ℤ_assoc b.num (c.num *ℤ a.num) (pos b.den) ∙ ap (λ z. b.num *ℤ z) (*ℤ_assoc c.num a.num (pos b.den))))
+    (ap (λ z. z *ℤ pos b.den) (swap-first c.num b.num a.num) ∙ *ℤ_assoc b.num (c.num *ℤ a.num) (pos b.den)
+    ∙ ap (λ z. b.num *ℤ z) (*ℤ_assoc c.num a.num (pos b.den))))
   where
     step : (f : Fraction) (n : ℤ) (k j l : ℕ) → pos k *ℤ pos f.den ≡ pos j *ℤ pos l → IsTimes (n *ℤ pos (j * l)) f (f.num *ℤ (n *ℤ pos k))
     step f n k j l e = *ℤ_assoc f.num (n *ℤ pos k) (pos f.den) ∙ ap (λ z. f.num *ℤ z) (*ℤ_assoc n (pos k) (pos f.den) ∙ ap (λ z. n *ℤ z) e)
@@ -185,9 +195,11 @@ rest-of_sum a b k some_a low_b some_k e =
     let second : IsTimes (pos b.den *ℤ pos a.den) b (pos a.den *ℤ b.num) =
     subst (λ c. IsTimes c b (pos a.den *ℤ b.num)) (*ℤ_comm (pos a.den) (pos b.den)) (times-scaled (pos a.den) (pos b.den) b b.num refl) in
     let whole : IsTimes (pos b.den *ℤ pos a.den) k (pos b.den *ℤ a.num +ℤ pos a.den *ℤ b.num) =
-    subst (λ f. IsTimes (pos b.den *ℤ pos a.den) f (pos b.den *ℤ a.num +ℤ pos a.den *ℤ b.num)) e (times-sum (pos b.den *ℤ pos a.den) a b _ _ some_a low_b.positive first second) in
+    subst (λ f. IsTimes (pos b.den *ℤ pos a.den) f (pos b.den *ℤ a.num +ℤ pos a.den *ℤ b.num)) e
+    (times-sum (pos b.den *ℤ pos a.den) a b _ _ some_a low_b.positive first second) in
     times-same (b.den * a.den) b (difference_of k a) (pos a.den *ℤ b.num) (one-le-mul low_b.positive some_a) low_b (difference-lowest k a some_k some_a) second
-    (subst (λ z. IsTimes (pos b.den *ℤ pos a.den) (difference_of k a) z) (less (pos b.den *ℤ a.num) (pos a.den *ℤ b.num)) (times-difference (pos b.den *ℤ pos a.den) k a _ _ some_k some_a whole first))
+    (subst (λ z. IsTimes (pos b.den *ℤ pos a.den) (difference_of k a) z) (less (pos b.den *ℤ a.num) (pos a.den *ℤ b.num))
+    (times-difference (pos b.den *ℤ pos a.den) k a _ _ some_k some_a whole first))
   where
     less : (u v : ℤ) → (u +ℤ v) -ℤ u ≡ v
     less u v = omega (arith, ints)
@@ -204,9 +216,11 @@ turned a b k c some_a some_b some_k some_c e =
     let v : ℤ = pos c.den *ℤ (pos a.den *ℤ b.num) in
     let w : ℤ = (pos b.den *ℤ pos a.den) *ℤ c.num in
     let some : 1 ≤ c.den * (b.den * a.den) = one-le-mul some_c (one-le-mul some_b some_a) in
-    let times_a : IsTimes whole a u = times-scaled (pos c.den) (pos b.den *ℤ pos a.den) a (pos b.den *ℤ a.num) (times-scaled (pos b.den) (pos a.den) a a.num refl) in
+    let times_a : IsTimes whole a u = times-scaled (pos c.den) (pos b.den *ℤ pos a.den) a (pos b.den *ℤ a.num)
+    (times-scaled (pos b.den) (pos a.den) a a.num refl) in
     let times_b : IsTimes whole b v =
-    subst (λ z. IsTimes (pos c.den *ℤ z) b v) (*ℤ_comm (pos a.den) (pos b.den)) (times-scaled (pos c.den) (pos a.den *ℤ pos b.den) b (pos a.den *ℤ b.num) (times-scaled (pos a.den) (pos b.den) b b.num refl)) in
+    subst (λ z. IsTimes (pos c.den *ℤ z) b v) (*ℤ_comm (pos a.den) (pos b.den))
+    (times-scaled (pos c.den) (pos a.den *ℤ pos b.den) b (pos a.den *ℤ b.num) (times-scaled (pos a.den) (pos b.den) b b.num refl)) in
     let times_c : IsTimes whole c w =
     subst (λ z. IsTimes z c w) (*ℤ_comm (pos b.den *ℤ pos a.den) (pos c.den)) (times-scaled (pos b.den *ℤ pos a.den) (pos c.den) c c.num refl) in
     let times_k : IsTimes whole k (u +ℤ v) = subst (λ f. IsTimes whole f (u +ℤ v)) e (times-sum whole a b u v some_a some_b times_a times_b) in

@@ -38,8 +38,10 @@ bounds_in_weights = record {
     gets_one tables tree game root_one root_two x y are low =
         let one : Fraction = expected_payoff One tables tree x y in
         let weighed = pay (form_of_game tables tree).leaves x y in
-        subst (λ z. IsAtMost low one ↔ ((low.num *ℤ z) ≤ℤ (weighed *ℤ pos low.den))) (sym (*ℤ_assoc (pos (game_unit tables tree)) (pos root_one) (pos root_two)))
-        (least-times (scale tables tree game root_one root_two x y are) low one weighed (scale_some tables tree game root_one root_two x y are) (expected_payoff-lowest tables tree game root_one root_two x y are One).positive
+        subst (λ z. IsAtMost low one ↔ ((low.num *ℤ z) ≤ℤ (weighed *ℤ pos low.den)))
+        (sym (*ℤ_assoc (pos (game_unit tables tree)) (pos root_one) (pos root_two)))
+        (least-times (scale tables tree game root_one root_two x y are) low one weighed (scale_some tables tree game root_one root_two x y are)
+        (expected_payoff-lowest tables tree game root_one root_two x y are One).positive
         (paid-times tables tree game root_one root_two x y are))
 
     concedes_one : (tables : Tables) (tree : Forest) (game : IsCompleteGame tables tree) (root_one root_two : ℕ) (x y : List ℕ)
@@ -49,16 +51,24 @@ bounds_in_weights = record {
     concedes_one tables tree game root_one root_two x y are high =
         let one : Fraction = expected_payoff One tables tree x y in
         let weighed = pay (form_of_game tables tree).leaves x y in
-        let order = ap (λ z. pos (game_unit tables tree) *ℤ z) (*ℤ_comm (pos root_one) (pos root_two)) ∙ sym (*ℤ_assoc (pos (game_unit tables tree)) (pos root_two) (pos root_one)) in
+        let order = ap (λ z. pos (game_unit tables tree) *ℤ z) (*ℤ_comm (pos root_one) (pos root_two))
+        ∙ sym (*ℤ_assoc (pos (game_unit tables tree)) (pos root_two) (pos root_one)) in
         subst (λ z. IsAtMost one high ↔ ((weighed *ℤ pos high.den) ≤ℤ (high.num *ℤ z))) order
-        (most-times (scale tables tree game root_one root_two x y are) high one weighed (scale_some tables tree game root_one root_two x y are) (expected_payoff-lowest tables tree game root_one root_two x y are One).positive
+        (most-times (scale tables tree game root_one root_two x y are) high one weighed (scale_some tables tree game root_one root_two x y are)
+        (expected_payoff-lowest tables tree game root_one root_two x y are One).positive
         (paid-times tables tree game root_one root_two x y are))
 
 -- what a plan is sure of, and what it keeps the other player to, add up to the game's sum
 pub each_bounds_the_other : EachBoundsTheOther
 each_bounds_the_other tables tree game player root own p bound some = record {
-  sure = (λ h root_other other q. (turn player root root_other own other p q).least.0 (h root_other other q), λ h root_other other q. (turn player root root_other own other p q).least.1 (h root_other other q));
-  keeps = (λ h root_other other q. (turn player root root_other own other p q).most.0 (h root_other other q), λ h root_other other q. (turn player root root_other own other p q).most.1 (h root_other other q));
+  sure = (
+    λ h root_other other q. (turn player root root_other own other p q).least.0 (h root_other other q),
+    λ h root_other other q. (turn player root root_other own other p q).least.1 (h root_other other q),
+  );
+  keeps = (
+    λ h root_other other q. (turn player root root_other own other p q).most.0 (h root_other other q),
+    λ h root_other other q. (turn player root root_other own other p q).most.1 (h root_other other q),
+  );
 }
   where
     turn : (player : Player) (root root_other : ℕ) (own other : List ℕ) → IsPlanFor player tables tree root own
@@ -67,11 +77,15 @@ each_bounds_the_other tables tree game player root own p bound some = record {
     turn One root root_other own other p q =
         let are : ArePlans tables tree root root_other own other = record { one = p; two = q } in
         let low = expected_payoff-lowest tables tree game.complete root root_other own other are in
-        turned (expected_payoff One tables tree own other) (expected_payoff Two tables tree own other) (game_sum tables tree) bound (low One).positive (low Two).positive
-        (given-lowest tables tree game.complete root root_other own other are game.constant_sum).positive some (together tables tree game.complete root root_other own other are game.constant_sum)
+        turned (expected_payoff One tables tree own other) (expected_payoff Two tables tree own other) (game_sum tables tree) bound (low One).positive
+        (low Two).positive
+        (given-lowest tables tree game.complete root root_other own other are game.constant_sum).positive some
+        (together tables tree game.complete root root_other own other are game.constant_sum)
     turn Two root root_other own other p q =
         let are : ArePlans tables tree root_other root other own = record { one = q; two = p } in
         let low = expected_payoff-lowest tables tree game.complete root_other root other own are in
-        turned (expected_payoff Two tables tree other own) (expected_payoff One tables tree other own) (game_sum tables tree) bound (low Two).positive (low One).positive
+        turned (expected_payoff Two tables tree other own) (expected_payoff One tables tree other own) (game_sum tables tree) bound (low Two).positive
+        (low One).positive
         (given-lowest tables tree game.complete root_other root other own are game.constant_sum).positive some
-        (sum-swapped (expected_payoff Two tables tree other own) (expected_payoff One tables tree other own) ∙ together tables tree game.complete root_other root other own are game.constant_sum)
+        (sum-swapped (expected_payoff Two tables tree other own) (expected_payoff One tables tree other own)
+        ∙ together tables tree game.complete root_other root other own are game.constant_sum)

@@ -1,4 +1,5 @@
--- What a plan is sure of, in expected payoffs, and what it keeps the other player to (von Neumann and Morgenstern 1944).
+-- What a plan is sure of, in expected payoffs, and what it keeps the other player to (von Neumann and Morgenstern
+-- 1944).
 --     IsSureOf player tables tree plan f       the player's plan is expected to get at least f against each plan
 --     KeepsTo player tables tree plan f        against it no plan of the other player is expected to get more than f
 --     IsBestPayoff player tables tree plan f   the best that the player is expected to get against the other's plan
@@ -27,7 +28,8 @@ IsPlanFor player tables tree root plan = IsPlan (player_sets (form_of_game table
 
 -- the player's plan gets at least the bound against each plan of the other player
 abbrev pub IsSureOf : Player → Tables → Forest → List ℕ → Fraction → Type 0
-IsSureOf player tables tree plan bound = (root : ℕ) (other : List ℕ) → IsPlanFor (opponent player) tables tree root other
+IsSureOf player tables tree plan bound = (root : ℕ) (other : List ℕ)
+    → IsPlanFor (opponent player) tables tree root other
     → IsAtMost bound (payoff_by player player tables tree plan other)
 
 -- the other player gets at most the bound against the player's plan
@@ -35,18 +37,23 @@ abbrev pub KeepsTo : Player → Tables → Forest → List ℕ → Fraction → 
 KeepsTo player tables tree plan bound = (root : ℕ) (other : List ℕ) → IsPlanFor (opponent player) tables tree root other
     → IsAtMost (payoff_by (opponent player) player tables tree plan other) bound
 
--- in weights of the leaves, player one's plan gets at least the bound, and player two's concedes at most the bound, each
--- against all plans of the other
+-- in weights of the leaves, player one's plan gets at least the bound, and player two's concedes at most the bound,
+-- each against all plans of the other
 abbrev pub GetsInWeights : Tables → Forest → ℕ → List ℕ → Fraction → Type 0
-GetsInWeights tables tree root plan_one low = (root_two : ℕ) (plan_two : List ℕ) → IsPlanFor Two tables tree root_two plan_two
-    → (low.num *ℤ pos (game_unit tables tree * root * root_two)) ≤ℤ (pay (form_of_game tables tree).leaves plan_one plan_two *ℤ pos low.den)
+GetsInWeights tables tree root plan_one low = (root_two : ℕ) (plan_two : List ℕ)
+    → IsPlanFor Two tables tree root_two plan_two
+    → (low.num *ℤ pos (game_unit tables tree * root * root_two))
+    ≤ℤ (pay (form_of_game tables tree).leaves plan_one plan_two *ℤ pos low.den)
 
 abbrev pub ConcedesInWeights : Tables → Forest → ℕ → List ℕ → Fraction → Type 0
-ConcedesInWeights tables tree root plan_two high = (root_one : ℕ) (plan_one : List ℕ) → IsPlanFor One tables tree root_one plan_one
-    → (pay (form_of_game tables tree).leaves plan_one plan_two *ℤ pos high.den) ≤ℤ (high.num *ℤ pos (game_unit tables tree * root * root_one))
+ConcedesInWeights tables tree root plan_two high = (root_one : ℕ) (plan_one : List ℕ)
+    → IsPlanFor One tables tree root_one plan_one
+    → (pay (form_of_game tables tree).leaves plan_one plan_two *ℤ pos high.den)
+    ≤ℤ (high.num *ℤ pos (game_unit tables tree * root * root_one))
 
 -- the best that the player is expected to get against a plan of the other player: some plan gets it, and none gets more
-pub record IsBestPayoff (player : Player) (tables : Tables) (tree : Forest) (against : List ℕ) (best : Fraction) : Type 0 where
+pub record IsBestPayoff (player : Player) (tables : Tables) (tree : Forest) (against : List ℕ) (best : Fraction) : Type
+    0 where
   pub root : ℕ
   pub reply : List ℕ
   pub is_plan : IsPlanFor player tables tree root reply
@@ -64,4 +71,5 @@ pub record IsGainOfBoth (tables : Tables) (tree : Forest) (root_one root_two : �
   pub gains : sum_of (difference_of best_one (expected_payoff One tables tree plan_one plan_two))
       (difference_of best_two (expected_payoff Two tables tree plan_one plan_two))
       ≡ fraction_of gap (game_unit tables tree * (root_one * root_two))
-  pub bests : difference_of (sum_of best_one best_two) (game_sum tables tree) ≡ fraction_of gap (game_unit tables tree * (root_one * root_two))
+  pub bests : difference_of (sum_of best_one best_two) (game_sum tables tree)
+      ≡ fraction_of gap (game_unit tables tree * (root_one * root_two))

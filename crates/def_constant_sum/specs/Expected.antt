@@ -32,7 +32,8 @@ pub record IsCompleteGame (tables : Tables) (tree : Forest) : Type 0 where
   pub recall : HasPerfectRecall tree
 
 -- a plan of each player, with its root
-pub record ArePlans (tables : Tables) (tree : Forest) (root_one root_two : ℕ) (plan_one plan_two : List ℕ) : Type 0 where
+pub record ArePlans (tables : Tables) (tree : Forest) (root_one root_two : ℕ) (plan_one plan_two : List ℕ) : Type
+    0 where
   pub one : IsPlan (form_of_game tables tree).sets_one root_one plan_one
   pub two : IsPlan (form_of_game tables tree).sets_two root_two plan_two
 
@@ -43,7 +44,8 @@ fraction_sum f (x ∷ xs) = sum_of (f x) (fraction_sum f xs)
 
 -- both plans' numbers at a leaf, multiplied
 abbrev pub numbers_at : Forest → List ℕ → List ℕ → Visit → ℕ
-numbers_at tree plan_one plan_two leaf = slice_index plan_one (sequence_at kinds.One tree leaf) * slice_index plan_two (sequence_at kinds.Two tree leaf)
+numbers_at tree plan_one plan_two leaf = slice_index plan_one (sequence_at kinds.One tree leaf)
+    * slice_index plan_two (sequence_at kinds.Two tree leaf)
 
 -- both plans' roots, which are their numbers of the empty sequence, multiplied
 abbrev pub roots_of : List ℕ → List ℕ → ℕ
@@ -52,7 +54,8 @@ roots_of plan_one plan_two = slice_index plan_one 0 * slice_index plan_two 0
 -- the probability of a leaf: chance's, times each plan's number there over the plan's root
 abbrev pub leaf_probability : Tables → Forest → List ℕ → List ℕ → Visit → Fraction
 leaf_probability tables tree plan_one plan_two leaf =
-    product_of (reach tables leaf.path) (fraction_of (pos (numbers_at tree plan_one plan_two leaf)) (roots_of plan_one plan_two))
+    product_of (reach tables leaf.path) (fraction_of (pos (numbers_at tree plan_one plan_two leaf))
+    (roots_of plan_one plan_two))
 
 abbrev pub payoff_of : Player → Tables → Visit → Fraction
 payoff_of One = payoff_one
@@ -61,4 +64,5 @@ payoff_of Two = payoff_two
 -- what two plans are expected to pay a player: over all leaves the probability times the payoff
 abbrev pub expected_payoff : Player → Tables → Forest → List ℕ → List ℕ → Fraction
 expected_payoff player tables tree plan_one plan_two =
-    fraction_sum (λ leaf. product_of (leaf_probability tables tree plan_one plan_two leaf) (payoff_of player tables leaf)) (leaf_visits tree)
+    fraction_sum (λ leaf. product_of (leaf_probability tables tree plan_one plan_two leaf)
+    (payoff_of player tables leaf)) (leaf_visits tree)

@@ -40,16 +40,20 @@ abbrev pub WeightsPayTheExpected : Type 0
 WeightsPayTheExpected = (tables : Tables) (tree : Forest) → IsCompleteGame tables tree
     → (root_one root_two : ℕ) (plan_one plan_two : List ℕ) → ArePlans tables tree root_one root_two plan_one plan_two
     → expected_payoff One tables tree plan_one plan_two
-    ≡ fraction_of (pay (form_of_game tables tree).leaves plan_one plan_two) (game_unit tables tree * (root_one * root_two))
+    ≡ fraction_of (pay (form_of_game tables tree).leaves plan_one plan_two)
+    (game_unit tables tree * (root_one * root_two))
 
 -- both players together get the game's sum, so player two what player one leaves of it, in weights too
-pub record PayTheSum (tables : Tables) (tree : Forest) (root_one root_two : ℕ) (plan_one plan_two : List ℕ) : Type 0 where
-  pub total : sum_of (expected_payoff One tables tree plan_one plan_two) (expected_payoff Two tables tree plan_one plan_two)
+pub record PayTheSum (tables : Tables) (tree : Forest) (root_one root_two : ℕ) (plan_one plan_two : List ℕ) : Type
+    0 where
+  pub total : sum_of (expected_payoff One tables tree plan_one plan_two)
+      (expected_payoff Two tables tree plan_one plan_two)
       ≡ game_sum tables tree
   pub two : expected_payoff Two tables tree plan_one plan_two
       ≡ difference_of (game_sum tables tree) (expected_payoff One tables tree plan_one plan_two)
   pub two_in_weights : expected_payoff Two tables tree plan_one plan_two
-      ≡ fraction_of ((whole_sum tables tree *ℤ pos (root_one * root_two)) -ℤ pay (form_of_game tables tree).leaves plan_one plan_two)
+      ≡ fraction_of ((whole_sum tables tree *ℤ pos (root_one * root_two))
+      -ℤ pay (form_of_game tables tree).leaves plan_one plan_two)
       (game_unit tables tree * (root_one * root_two))
 
 abbrev pub PayoffsAddUp : Type 0
@@ -68,9 +72,12 @@ pub record BoundsInWeights : Type 0 where
 
 -- a plan is sure of a payoff exactly where it keeps the other player to the rest of the game's sum, and keeps the other
 -- player to a payoff exactly where it is sure of the rest
-pub record BoundsTheOther (player : Player) (tables : Tables) (tree : Forest) (plan : List ℕ) (bound : Fraction) : Type 0 where
-  pub sure : IsSureOf player tables tree plan bound ↔ KeepsTo player tables tree plan (difference_of (game_sum tables tree) bound)
-  pub keeps : KeepsTo player tables tree plan bound ↔ IsSureOf player tables tree plan (difference_of (game_sum tables tree) bound)
+pub record BoundsTheOther (player : Player) (tables : Tables) (tree : Forest) (plan : List ℕ) (bound : Fraction) : Type
+    0 where
+  pub sure : IsSureOf player tables tree plan bound ↔ KeepsTo player tables tree plan
+      (difference_of (game_sum tables tree) bound)
+  pub keeps : KeepsTo player tables tree plan bound ↔ IsSureOf player tables tree plan
+      (difference_of (game_sum tables tree) bound)
 
 abbrev pub EachBoundsTheOther : Type 0
 EachBoundsTheOther = (tables : Tables) (tree : Forest) → IsConstantGame tables tree
@@ -81,11 +88,13 @@ EachBoundsTheOther = (tables : Tables) (tree : Forest) → IsConstantGame tables
 -- expected to get; and player two's is what the game's sum is above the payoff that player two's best replies leave
 pub record BestPayoffsInWeights : Type 0 where
   pub one : (tables : Tables) (tree : Forest) → IsCompleteGame tables tree → (root_two : ℕ) (plan_two : List ℕ)
-      → IsPlanFor Two tables tree root_two plan_two → (best : ℤ) → IsBestAgainst (form_of_game tables tree) plan_two best
+      → IsPlanFor Two tables tree root_two plan_two → (best : ℤ)
+      → IsBestAgainst (form_of_game tables tree) plan_two best
       → IsBestPayoff One tables tree plan_two (fraction_of best (game_unit tables tree * root_two))
   pub two : (tables : Tables) (tree : Forest) → IsConstantGame tables tree → (root_one : ℕ) (plan_one : List ℕ)
       → IsPlanFor One tables tree root_one plan_one → (left : ℤ) → IsLeft (form_of_game tables tree) plan_one left
-      → IsBestPayoff Two tables tree plan_one (difference_of (game_sum tables tree) (fraction_of left (game_unit tables tree * root_one)))
+      → IsBestPayoff Two tables tree plan_one (difference_of (game_sum tables tree)
+      (fraction_of left (game_unit tables tree * root_one)))
 
 -- the total exploitability of two plans is what both players together could gain, and there is one best payoff
 pub record ExploitabilityIsGained : Type 0 where

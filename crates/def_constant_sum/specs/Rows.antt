@@ -13,7 +13,8 @@ use Rattle.def_fraction.specs.Order.{difference_of}
 abbrev pub coin_tables : Tables
 coin_tables = record {
   chance = [];
-  outcomes = record { one = whole_number (pos 1); two = whole_number (pos 0) } ∷ record { one = whole_number (pos 0); two = whole_number (pos 1) } ∷ [];
+  outcomes = record { one = whole_number (pos 1); two = whole_number (pos 0) }
+      ∷ record { one = whole_number (pos 0); two = whole_number (pos 1) } ∷ [];
 }
 
 -- the uneven tree with payoffs of which each leaf's add up to 5/6
@@ -21,7 +22,8 @@ abbrev pub uneven_constant : Tables
 uneven_constant = record {
   chance = (over (pos 1) 2 ∷ over (pos 1) 3 ∷ over (pos 1) 6 ∷ []) ∷ (over (pos 1) 4 ∷ over (pos 3) 4 ∷ []) ∷ [];
   outcomes =
-      record { one = over (pos 1) 2; two = over (pos 1) 3 } ∷ record { one = whole_number (pos 2); two = whole_number (negsuc 1) }
+      record { one = over (pos 1) 2; two = over (pos 1) 3 }
+      ∷ record { one = whole_number (pos 2); two = whole_number (negsuc 1) }
       ∷ record { one = whole_number (negsuc 0); two = whole_number (pos 1) } ∷ [];
 }
 
@@ -38,7 +40,8 @@ no_choice = 1 ∷ []
 
 pub record PayoffRows : Type 0 where
   pub coin_sum : game_sum coin_tables matching_pennies ≡ whole_number (pos 1)
-  pub coin_probabilities : map (leaf_probability coin_tables matching_pennies heads mostly_tails) (leaf_visits matching_pennies)
+  pub coin_probabilities : map (leaf_probability coin_tables matching_pennies heads mostly_tails)
+      (leaf_visits matching_pennies)
       ≡ over (pos 1) 3 ∷ over (pos 2) 3 ∷ whole_number (pos 0) ∷ whole_number (pos 0) ∷ []
   pub coin_one : expected_payoff One coin_tables matching_pennies heads mostly_tails ≡ over (pos 1) 3
   pub coin_two : expected_payoff Two coin_tables matching_pennies heads mostly_tails ≡ over (pos 2) 3

@@ -1,5 +1,6 @@
 -- No reader answers that the file is too long.
-use Rattle.std.proofs.Common.{◌≡◌, ◌≢◌, ℕ, zero, suc, ◌+◌, Bool, true, false, cond, ap, nat_eq, List, [], ◌∷◌, ◌++◌, length, Option, Some, None, Result, Ok, Err}
+use Rattle.std.proofs.Common.{◌≡◌, ◌≢◌, ℕ, zero, suc, ◌+◌, Bool, true, false, cond, ap, nat_eq, List, [], ◌∷◌, ◌++◌, length, Option, Some, None, Result, Ok}
+use Rattle.std.proofs.Common.{Err}
 use Rattle.def_file_tokens.specs.declared.Token.TheVariants as kinds
 use Rattle.def_file_tokens.specs.declared.Lexeme.{Lexeme}
 use Rattle.def_file_tokens.specs.declared.LexFault.{LexFault}
@@ -17,7 +18,11 @@ use Rattle.def_file.specs.Content.{Action, Record, Contents, no_contents}
 use Rattle.def_tree.specs.Rules.{most_nodes}
 use Rattle.def_file.specs.Faults.{first_met, record_faults, record_fault}
 use Rattle.def_file.specs.Adding.{with_record}
-use Rattle.def_file.specs.Reading.{◌>>=◌, is_kind, is_token, is_exact, begins_entry, unfit, token_if, token_where, next_is, mark, open_byte, close_byte, comma_byte, text_at, name_at, bytes_at, number_or_fault, number_at, literal_at, whole_at, read_as_set, set_number_at, chance_at, action_at, close_at, actions_from, actions_at, comma_at, payoff_at, payoffs_from, payoffs_at, set_mention_at, outcome_mention_at, chance_entry_at, personal_entry_at, terminal_entry_at, entry_at, names_from, checked_names, PrologueHead, head_at, behind_head, prologue_at, unless_fault, judged, entries_from, trailing, nothing_at, game_at}
+use Rattle.def_file.specs.Reading.{◌>>=◌, is_kind, is_token, is_exact, begins_entry, unfit, token_if, token_where, next_is, mark, open_byte, close_byte}
+use Rattle.def_file.specs.Reading.{comma_byte, text_at, name_at, bytes_at, number_or_fault, number_at, literal_at, whole_at, read_as_set, set_number_at}
+use Rattle.def_file.specs.Reading.{chance_at, action_at, close_at, actions_from, actions_at, comma_at, payoff_at, payoffs_from, payoffs_at, set_mention_at}
+use Rattle.def_file.specs.Reading.{outcome_mention_at, chance_entry_at, personal_entry_at, terminal_entry_at, entry_at, names_from, checked_names, PrologueHead}
+use Rattle.def_file.specs.Reading.{head_at, behind_head, prologue_at, unless_fault, judged, entries_from, trailing, nothing_at, game_at}
 
 -- it isn't answered
 abbrev pub AnyLength : {A : Type 0} → Result A FileFault → Type 0
@@ -95,7 +100,8 @@ chance_any Leaf whole at = ok_any _
 
 action_any : (kind : EntryKind) (whole : List ℕ) (at : ℕ) → AnyLength (action_at kind whole at)
 unfolding action_at
-action_any kind whole at = bind_any (text_at whole at) _ (text_any whole at) (λ name. bind_any (chance_at kind whole name.1) _ (chance_any kind whole name.1) (λ chance. ok_any _))
+action_any kind whole at = bind_any (text_at whole at) _ (text_any whole at)
+    (λ name. bind_any (chance_at kind whole name.1) _ (chance_any kind whole name.1) (λ chance. ok_any _))
 
 close_any : {A : Type 0} (value : A) (whole : List ℕ) (at : ℕ) → AnyLength (close_at value whole at)
 unfolding close_at
@@ -113,7 +119,8 @@ action_list_any : (kind : EntryKind) (whole : List ℕ) (at : ℕ) → AnyLength
 unfolding actions_at
 action_list_any kind whole at =
     cond_any (next_is open_byte whole at) _ _
-    (then_any (is_token kinds.Open whole) whole at _ (λ opening. bind_any (actions_from kind (length whole) [] whole opening.end) _ (actions_any kind (length whole) [] whole opening.end) (λ actions. ok_any _)))
+    (then_any (is_token kinds.Open whole) whole at _ (λ opening. bind_any (actions_from kind (length whole) [] whole opening.end) _
+    (actions_any kind (length whole) [] whole opening.end) (λ actions. ok_any _)))
     (ok_any _)
 
 comma_any : (done : List Fraction) (whole : List ℕ) (at : ℕ) → AnyLength (comma_at done whole at)
@@ -135,7 +142,8 @@ payoff_list_any : (whole : List ℕ) (at : ℕ) → AnyLength (payoffs_at whole 
 unfolding payoffs_at
 payoff_list_any whole at =
     cond_any (next_is open_byte whole at) _ _
-    (then_any (is_token kinds.Open whole) whole at _ (λ opening. bind_any (payoffs_from (length whole) [] whole opening.end) _ (payoffs_any (length whole) [] whole opening.end) (λ payoffs. ok_any _)))
+    (then_any (is_token kinds.Open whole) whole at _ (λ opening. bind_any (payoffs_from (length whole) [] whole opening.end) _
+    (payoffs_any (length whole) [] whole opening.end) (λ payoffs. ok_any _)))
     (ok_any _)
 
 set_mention_any : (kind : EntryKind) (whole : List ℕ) (at : ℕ) → AnyLength (set_mention_at kind whole at)
@@ -200,7 +208,8 @@ head_any whole at =
 behind_any : (whole : List ℕ) (head : PrologueHead × ℕ) → AnyLength (behind_head whole head)
 unfolding behind_head
 behind_any whole head =
-    bind_any (checked_names head.0.1 head.1) _ (cond_any (nat_eq (length head.0.1) 2) (Ok head.1) (Err (Players (length head.0.1))) (ok_any _) (λ e. cc)) (λ behind.
+    bind_any (checked_names head.0.1 head.1) _ (cond_any (nat_eq (length head.0.1) 2) (Ok head.1) (Err (Players (length head.0.1))) (ok_any _) (λ e. cc))
+    (λ behind.
     bind_any (name_at whole behind) _ (name_any whole behind) (λ comment. ok_any _))
 
 prologue_any : (whole : List ℕ) (at : ℕ) → AnyLength (prologue_at whole at)

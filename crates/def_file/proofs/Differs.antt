@@ -1,5 +1,6 @@
 -- What the tests of names, lists and numbers tell.
-use Rattle.std.proofs.Common.{◌≡◌, ◌≢◌, ℕ, ◌<◌, Bool, true, false, ◌&&◌, ◌||◌, not, List, [], ◌∷◌, length, map, Option, Some, None, ◌⊎◌, inl, inr, ◌↔◌, refl, sym, ap, ◌∙◌, subst}
+use Rattle.std.proofs.Common.{◌≡◌, ◌≢◌, ℕ, ◌<◌, Bool, true, false, ◌&&◌, ◌||◌, not, List, [], ◌∷◌, length, map, Option, Some, None, ◌⊎◌, inl, inr, ◌↔◌, refl}
+use Rattle.std.proofs.Common.{sym, ap, ◌∙◌, subst}
 use Rattle.std.specs.Prelude.{nat_eq, nat_lt, filter, is_none, pos, ◌*ℤ◌}
 use Rattle.std.specs.declared.cmp.Ordering.{Ordering}
 use Rattle.std.specs.declared.cmp.Ordering.TheVariants.{Less, Equal, Greater}
@@ -8,7 +9,8 @@ use Rattle.std.proofs.lemmas.Cmp.{int_ranked}
 use Rattle.std.specs.Cmp.Lexicographic as texts
 use Rattle.std.specs.Cmp.Lexicographic.{pointwise}
 use Rattle.std.proofs.Math.Logic.{⊎_elim}
-use Rattle.std.proofs.lemmas.Bool.{false≢true, and_parts, and_from, or_cases, or_left, or_right, not-true, not_from_false, false_from_ne_true, eqb-true, eqb-false, eq-eqb, ne_eqb, ltb-true, lt-ltb}
+use Rattle.std.proofs.lemmas.Bool.{false≢true, and_parts, and_from, or_cases, or_left, or_right, not-true, not_from_false, false_from_ne_true, eqb-true}
+use Rattle.std.proofs.lemmas.Bool.{eqb-false, eq-eqb, ne_eqb, ltb-true, lt-ltb}
 use Rattle.def_fraction.specs.Fraction.{Fraction, order_of}
 use Rattle.def_fraction.specs.Laws.{HasValue}
 use Rattle.def_tree.specs.declared.Kind.{Kind}
@@ -16,7 +18,8 @@ use Rattle.def_tree.specs.declared.Kind.TheVariants as movers
 use Rattle.def_tree.specs.Rules.{most_actions}
 use Rattle.def_file.specs.declared.EntryKind.TheVariants.{Chance, Personal}
 use Rattle.def_file.specs.Content.{Action, Record, OutcomeEntry}
-use Rattle.def_file.specs.Faults.{same_text, is_equal, same_value, same_action, name_differs, actions_differ, payoffs_differ, has_wrong_count, has_wrong_payoffs}
+use Rattle.def_file.specs.Faults.{same_text, is_equal, same_value, same_action, name_differs, actions_differ, payoffs_differ, has_wrong_count}
+use Rattle.def_file.specs.Faults.{has_wrong_payoffs}
 use Rattle.def_file.specs.Entries.{first_given}
 use Rattle.def_file.specs.EntryRules.{Moves, IsFirstWith, AreSameNumbers, AreSameActions, HasOtherName, HasOtherList}
 use Rattle.def_file.proofs.FirstWith.{TellsWhere, given_is_first, first_is_given, first_is_one}
@@ -61,7 +64,14 @@ record DifferAs (a b : Option (List ℕ)) : Type 0 where
 
 names_differ : (a b : Option (List ℕ)) → name_differs a b ≡ true → DifferAs a b
 names_differ (Some kept) (Some given) e =
-    record { kept = kept; given = given; keeps = refl; gives = refl; differ = λ same. false≢true (sym (not-true (same_text kept given) e) ∙ (text_tells kept given).1 same) }
+    record {
+      kept = kept;
+      given = given;
+      keeps = refl;
+      gives = refl;
+      differ = λ same. false≢true
+          (sym (not-true (same_text kept given) e) ∙ (text_tells kept given).1 same);
+    }
 names_differ (Some kept) None e = absurd cc
 names_differ None b e = absurd cc
 
@@ -86,7 +96,8 @@ name_tells t P name rs r tells = (forth, back)
     back : HasOtherName P name rs r → name_differs (first_given (map name (filter t rs))) (name r) ≡ true
     back h =
         let keeps = first_is_given t P name rs tells h.kept h.entry h.first h.keeps in
-        differ_names (first_given (map name (filter t rs))) (name r) (record { kept = h.kept; given = h.given; keeps = keeps; gives = h.gives; differ = h.differ })
+        differ_names (first_given (map name (filter t rs))) (name r) (record
+        { kept = h.kept; given = h.given; keeps = keeps; gives = h.gives; differ = h.differ })
 
 -- Lists.
 
@@ -119,7 +130,8 @@ list_tells {A} P list same Same rs r e kept tells first keeps = (forth, back)
         let own : list h.entry ≡ list e = ap list one in
         let is : h.kept ≡ kept = cc in
         ap (λ (o : Option A). other_list same kept o) h.gives
-        ∙ not_from_false (same kept h.given) (false_from_ne_true (same kept h.given) (λ s. h.differ (subst (λ k. Same k h.given) (sym is) ((tells h.given).0 s))))
+        ∙ not_from_false (same kept h.given) (false_from_ne_true (same kept h.given)
+        (λ s. h.differ (subst (λ k. Same k h.given) (sym is) ((tells h.given).0 s))))
 
 -- the test of actions compares lists
 pub actions_other : (kind : Kind) (kept : List Action) (o : Option (List Action))
@@ -186,7 +198,8 @@ chances_split [] (b ∷ bs) = refl
 chances_split (a ∷ ks) [] = refl
 chances_split (a ∷ ks) (b ∷ bs) =
     ap (λ (x : Bool). same_action movers.Chance a b && x) (chances_split ks bs)
-    ∙ crossed (same_text a.name b.name) (same_value a.chance b.chance) (pointwise (λ x y. same_text x.name y.name) ks bs) (pointwise same_value (map (λ x. x.chance) ks) (map (λ y. y.chance) bs))
+    ∙ crossed (same_text a.name b.name) (same_value a.chance b.chance) (pointwise (λ x y. same_text x.name y.name) ks bs)
+    (pointwise same_value (map (λ x. x.chance) ks) (map (λ y. y.chance) bs))
   where
     crossed : (x y u v : Bool) → (x && y && (u && v)) ≡ (x && u && (y && v))
     crossed true true u v = refl
@@ -220,7 +233,10 @@ actions_tell movers.Chance r m ks gs =
     let names = pointwise (λ a b. same_text a.name b.name) ks gs in
     let values = pointwise same_value (map (λ a. a.chance) ks) (map (λ b. b.chance) gs) in
     let numbers = numbers_tell (map (λ a. a.chance) ks) (map (λ b. b.chance) gs) in (
-      λ e. let parts = and_parts names values (sym (chances_split ks gs) ∙ e) in record { names = (names_tell ks gs).0 parts.0; chances = λ _. numbers.0 parts.1 },
+      λ e. let parts = and_parts names values (sym (chances_split ks gs) ∙ e) in record {
+        names = (names_tell ks gs).0 parts.0;
+        chances = λ _. numbers.0 parts.1;
+      },
       λ h. chances_split ks gs ∙ and_from names values ((names_tell ks gs).1 h.names) (numbers.1 (h.chances m)),
     )
 actions_tell movers.One r m ks gs = by_name r movers.One m.0 (λ a b. refl) ks gs
@@ -234,12 +250,18 @@ pub count_tells : (o : Option (List Action))
     → (has_wrong_count o ≡ true)
     ↔ ((given : List Action) × (o ≡ Some given) × ((length given ≡ 0) ⊎ (most_actions < length given)))
 count_tells (Some given) = (
-  λ e. (given, refl, ⊎_elim (λ h. inl (eqb-true (length given) 0 h)) (λ h. inr (ltb-true most_actions (length given) h)) (or_cases (nat_eq (length given) 0) (nat_lt most_actions (length given)) e)),
+  λ e. (
+    given,
+    refl,
+    ⊎_elim (λ h. inl (eqb-true (length given) 0 h)) (λ h. inr (ltb-true most_actions (length given) h))
+        (or_cases (nat_eq (length given) 0) (nat_lt most_actions (length given)) e),
+  ),
   λ (g, is, h).
       let same : length g ≡ length given = let one : g ≡ given = cc in ap length one in
       ⊎_elim
       (λ none. or_left (nat_eq (length given) 0) (nat_lt most_actions (length given)) (eq-eqb (length given) 0 (sym same ∙ none)))
-      (λ many. or_right (nat_eq (length given) 0) (nat_lt most_actions (length given)) (lt-ltb most_actions (length given) (subst (λ n. most_actions < n) same many)))
+      (λ many. or_right (nat_eq (length given) 0) (nat_lt most_actions (length given))
+      (lt-ltb most_actions (length given) (subst (λ n. most_actions < n) same many)))
       h,
 )
 count_tells None = (λ e. absurd cc, λ (g, is, h). absurd cc)

@@ -12,7 +12,8 @@ use Rattle.def_file.specs.Faults.{mover, no_set, null_outcome}
 use Rattle.def_file.specs.Adding.{kept_name, new_set, noted_set, new_outcome, noted_outcome, nth_payoff, set_number, action_count}
 use Rattle.def_file.specs.Entries.{firsts, first_given, given_first, number_in, of_kind, set_table, with_outcome, outcome_numbers, outcome_table}
 use Rattle.def_file.proofs.Firsts.{among, number-stays}
-use Rattle.def_file.proofs.Tables.{found, noted_with, IsNotedWith, table-noted, number-noted, value-noted, hits, hits-other, hits-own, hits-none, HasSome, hits-some}
+use Rattle.def_file.proofs.Tables.{found, noted_with, IsNotedWith, table-noted, number-noted, value-noted, hits, hits-other, hits-own, hits-none, HasSome}
+use Rattle.def_file.proofs.Tables.{hits-some}
 
 first_given-append : (xs : List (Option (List ℕ))) (x : Option (List ℕ))
     → first_given (xs ++ x ∷ []) ≡ kept_name (first_given xs) x
@@ -63,7 +64,8 @@ set_noted : (rs : List Record) (r : Record)
 set_noted rs r = record {
   shown = λ m. refl;
   stays = λ m h. ap (set_by m) (hits-other set_key m rs r h);
-  changed = λ h. ap (set_by r.set.number) (hits-own set_key rs r) ∙ set_changed r.set.number (hits set_key r.set.number rs) r (hits-some set_key r.set.number rs h);
+  changed = λ h. ap (set_by r.set.number) (hits-own set_key rs r) ∙ set_changed r.set.number (hits set_key r.set.number rs) r
+      (hits-some set_key r.set.number rs h);
   begun = λ h. ap (set_by r.set.number) (hits-own set_key rs r ∙ ap (λ (xs : List Record). xs ++ r ∷ []) (hits-none set_key r.set.number rs h)) ∙ set_begun r;
 }
 
@@ -79,7 +81,8 @@ numbers_more key rs r = ap firsts (map-append key rs (r ∷ []))
 set_table_more : (rs : List Record) (r : Record) → set_table_by (rs ++ r ∷ []) ≡ noted_set (set_table_by rs) r.set
 set_table_more rs r =
     ap (map (set_known (rs ++ r ∷ []))) (numbers_more set_key rs r)
-    ∙ table-noted (λ e. e.number) no_set (renamed_set r.set) (new_set r.set) (set_known rs) (set_known (rs ++ r ∷ [])) r.set.number (map set_key rs) (set_noted rs r)
+    ∙ table-noted (λ e. e.number) no_set (renamed_set r.set) (new_set r.set) (set_known rs) (set_known (rs ++ r ∷ [])) r.set.number (map set_key rs)
+    (set_noted rs r)
 
 -- the number of the last entry's set
 pub set_number_more : (rs : List Record) (r : Record)
@@ -93,7 +96,8 @@ pub action_count_more : (rs : List Record) (r : Record)
     → length (set_known (rs ++ r ∷ []) r.set.number).actions ≡ action_count (set_table_by rs) r.set
 action_count_more rs r =
     let known = set_noted rs r in
-    value-noted (λ (e : SetEntry). e.number) no_set (λ (e : SetEntry). length e.actions) (set_known rs) (set_known (rs ++ r ∷ [])) (length (new_set r.set).actions) (λ m. refl) r.set.number (map set_key rs)
+    value-noted (λ (e : SetEntry). e.number) no_set (λ (e : SetEntry). length e.actions) (set_known rs) (set_known (rs ++ r ∷ []))
+    (length (new_set r.set).actions) (λ m. refl) r.set.number (map set_key rs)
     (λ h. ap (λ (e : SetEntry). length e.actions) (known.changed h)) (λ h. ap (λ (e : SetEntry). length e.actions) (known.begun h))
 
 -- what an earlier mention says of its set stays
@@ -107,7 +111,8 @@ count_step n rs r true e h =
     let same : r.set.number ≡ n = eqb-true r.set.number n e in
     let own : among r.set.number (map set_key rs) ≡ true = ap (λ (k : ℕ). among k (map set_key rs)) same ∙ h in
     let known = set_noted rs r in
-    ap (λ (k : ℕ). length (set_known (rs ++ r ∷ []) k).actions) (sym same) ∙ ap (λ (e : SetEntry). length e.actions) (known.changed own) ∙ ap (λ (k : ℕ). length (set_known rs k).actions) same
+    ap (λ (k : ℕ). length (set_known (rs ++ r ∷ []) k).actions) (sym same) ∙ ap (λ (e : SetEntry). length e.actions) (known.changed own)
+    ∙ ap (λ (k : ℕ). length (set_known rs k).actions) same
 count_step n rs r false e h = ap (λ (e : SetEntry). length e.actions) ((set_noted rs r).stays n e)
 
 -- a set keeps its number of actions
@@ -125,7 +130,8 @@ own_kind kind rs r h = filter-append (λ x. is_same_kind kind (mover x)) rs (r �
 -- another kind has it not
 pub other_kind : (kind : Kind) (rs : List Record) (r : Record) → is_same_kind kind (mover r) ≡ false
     → of_kind kind (rs ++ r ∷ []) ≡ of_kind kind rs
-other_kind kind rs r h = filter-append (λ x. is_same_kind kind (mover x)) rs (r ∷ []) ∙ ap (λ (b : Bool). of_kind kind rs ++ cond b (r ∷ []) []) h ∙ append-nil (of_kind kind rs)
+other_kind kind rs r h = filter-append (λ x. is_same_kind kind (mover x)) rs (r ∷ []) ∙ ap (λ (b : Bool). of_kind kind rs ++ cond b (r ∷ []) []) h
+    ∙ append-nil (of_kind kind rs)
 
 own_table : (kind : Kind) (rs : List Record) (r : Record) → is_same_kind kind (mover r) ≡ true
     → set_table kind (rs ++ r ∷ []) ≡ noted_set (set_table kind rs) r.set
@@ -199,15 +205,23 @@ outcome_changed n rs r some =
 outcome_begun : (r : Record) → outcome_by r.outcome.number (r ∷ []) ≡ new_outcome r.outcome
 outcome_begun r =
     let name = first_given-append [] r.outcome.name in
-    λ i. record { number = r.outcome.number; name = name i; one = nth_payoff (unwrap_or r.outcome.payoffs []) 0; two = nth_payoff (unwrap_or r.outcome.payoffs []) 1 }
+    λ i. record {
+      number = r.outcome.number;
+      name = name i;
+      one = nth_payoff (unwrap_or r.outcome.payoffs []) 0;
+      two = nth_payoff (unwrap_or r.outcome.payoffs []) 1;
+    }
 
 outcome_noted : (rs : List Record) (r : Record)
-    → IsNotedWith (λ e. e.number) (renamed_outcome r.outcome) (new_outcome r.outcome) (outcome_known rs) (outcome_known (rs ++ r ∷ [])) r.outcome.number (map outcome_key rs)
+    → IsNotedWith (λ e. e.number) (renamed_outcome r.outcome) (new_outcome r.outcome) (outcome_known rs) (outcome_known (rs ++ r ∷ [])) r.outcome.number
+    (map outcome_key rs)
 outcome_noted rs r = record {
   shown = λ m. refl;
   stays = λ m h. ap (outcome_by m) (hits-other outcome_key m rs r h);
-  changed = λ h. ap (outcome_by r.outcome.number) (hits-own outcome_key rs r) ∙ outcome_changed r.outcome.number (hits outcome_key r.outcome.number rs) r (hits-some outcome_key r.outcome.number rs h);
-  begun = λ h. ap (outcome_by r.outcome.number) (hits-own outcome_key rs r ∙ ap (λ (xs : List Record). xs ++ r ∷ []) (hits-none outcome_key r.outcome.number rs h)) ∙ outcome_begun r;
+  changed = λ h. ap (outcome_by r.outcome.number) (hits-own outcome_key rs r)
+      ∙ outcome_changed r.outcome.number (hits outcome_key r.outcome.number rs) r (hits-some outcome_key r.outcome.number rs h);
+  begun = λ h. ap (outcome_by r.outcome.number) (hits-own outcome_key rs r
+      ∙ ap (λ (xs : List Record). xs ++ r ∷ []) (hits-none outcome_key r.outcome.number rs h)) ∙ outcome_begun r;
 }
 
 -- the outcomes of mentions of outcomes other than 0
@@ -219,7 +233,8 @@ outcomes_more : (rs : List Record) (r : Record)
     ≡ noted_with (λ e. e.number) null_outcome (renamed_outcome r.outcome) (new_outcome r.outcome) r.outcome.number (outcomes_by rs)
 outcomes_more rs r =
     ap (map (outcome_known (rs ++ r ∷ []))) (numbers_more outcome_key rs r)
-    ∙ table-noted (λ e. e.number) null_outcome (renamed_outcome r.outcome) (new_outcome r.outcome) (outcome_known rs) (outcome_known (rs ++ r ∷ [])) r.outcome.number (map outcome_key rs) (outcome_noted rs r)
+    ∙ table-noted (λ e. e.number) null_outcome (renamed_outcome r.outcome) (new_outcome r.outcome) (outcome_known rs) (outcome_known (rs ++ r ∷ []))
+    r.outcome.number (map outcome_key rs) (outcome_noted rs r)
 
 -- an outcome other than 0 is one of those mentioned
 pub some_outcome : (rs : List Record) (r : Record) → nat_eq r.outcome.number 0 ≡ false
@@ -229,11 +244,13 @@ some_outcome rs r h = filter-append (λ x. not (nat_eq x.outcome.number 0)) rs (
 -- outcome 0 is not
 pub null_mention : (rs : List Record) (r : Record) → nat_eq r.outcome.number 0 ≡ true
     → with_outcome (rs ++ r ∷ []) ≡ with_outcome rs
-null_mention rs r h = filter-append (λ x. not (nat_eq x.outcome.number 0)) rs (r ∷ []) ∙ ap (λ (b : Bool). with_outcome rs ++ cond (not b) (r ∷ []) []) h ∙ append-nil (with_outcome rs)
+null_mention rs r h = filter-append (λ x. not (nat_eq x.outcome.number 0)) rs (r ∷ []) ∙ ap (λ (b : Bool). with_outcome rs ++ cond (not b) (r ∷ []) []) h
+    ∙ append-nil (with_outcome rs)
 
 outcome_table_step : (rs : List Record) (r : Record) (b : Bool) → nat_eq r.outcome.number 0 ≡ b
     → outcome_table (rs ++ r ∷ [])
-    ≡ cond b (outcome_table rs) (noted_with (λ e. e.number) null_outcome (renamed_outcome r.outcome) (new_outcome r.outcome) r.outcome.number (outcome_table rs))
+    ≡ cond b (outcome_table rs) (noted_with (λ e. e.number) null_outcome (renamed_outcome r.outcome) (new_outcome r.outcome) r.outcome.number
+    (outcome_table rs))
 outcome_table_step rs r true e = ap outcomes_by (null_mention rs r e)
 outcome_table_step rs r false e = ap outcomes_by (some_outcome rs r e) ∙ outcomes_more (with_outcome rs) r
 

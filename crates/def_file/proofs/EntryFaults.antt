@@ -7,9 +7,11 @@ use Rattle.std.proofs.lemmas.List.{append_assoc, length-map}
 use Rattle.std.proofs.lemmas.List.Elements.{All-nil, All-cons}
 use Rattle.def_tree.specs.Rules.{most_nodes}
 use Rattle.def_file.specs.declared.FileFault.{FileFault}
-use Rattle.def_file.specs.declared.FileFault.TheVariants.{PlayerNumber, SetUndefined, SetMismatch, OutcomeUndefined, OutcomeMismatch, PayoffCount, TooManyNodes, ActionCount}
+use Rattle.def_file.specs.declared.FileFault.TheVariants.{PlayerNumber, SetUndefined, SetMismatch, OutcomeUndefined, OutcomeMismatch, PayoffCount, TooManyNodes}
+use Rattle.def_file.specs.declared.FileFault.TheVariants.{ActionCount}
 use Rattle.def_file.specs.Content.{Record, SetEntry, OutcomeEntry, sets_of_kind}
-use Rattle.def_file.specs.Faults.{mover, has_set, is_no_player, is_set_undefined, set_differs, is_set_miscounted, is_outcome_undefined, outcome_differs, is_outcome_miscounted, entry_faults, record_fault, first_met}
+use Rattle.def_file.specs.Faults.{mover, has_set, is_no_player, is_set_undefined, set_differs, is_set_miscounted, is_outcome_undefined, outcome_differs}
+use Rattle.def_file.specs.Faults.{is_outcome_miscounted, entry_faults, record_fault, first_met}
 use Rattle.def_file.specs.Entries.{node_of, set_table, outcome_table, contents_of}
 use Rattle.def_file.specs.EntryRules.{IsNewSet, HasOtherSet, HasNoneOrTooMany, Breaks, BreaksNone}
 use Rattle.def_file.specs.EntryLaws.{HaveNoFault, EntryFaultIsFirstBroken, NoFaultBreaksNone}
@@ -17,7 +19,8 @@ use Rattle.def_file.proofs.EntryAddsToTables.{set_tables_of}
 use Rattle.def_file.proofs.OneMore.{own_sets}
 use Rattle.def_file.proofs.FirstMet.{Decide, Rise, Among, first_is_least, least_is_first, none_met_none, none_holds_none_met}
 use Rattle.def_file.proofs.Differs.{guarded}
-use Rattle.def_file.proofs.EntryTests.{HasPlayer, player_tells, moves_set, SetIsPlaced, set_place, undefined_tells, counted_tells, same_set_tells, has_outcome, OutcomePlace, outcome_place, outcome_undefined_tells, outcome_counted_tells, other_outcome_tells}
+use Rattle.def_file.proofs.EntryTests.{HasPlayer, player_tells, moves_set, SetIsPlaced, set_place, undefined_tells, counted_tells, same_set_tells, has_outcome}
+use Rattle.def_file.proofs.EntryTests.{OutcomePlace, outcome_place, outcome_undefined_tells, outcome_counted_tells, other_outcome_tells}
 
 -- Entries without a fault have players.
 
@@ -27,7 +30,8 @@ has_player done r none = false_from_ne_true (is_no_player r.kind r.player) (λ e
 players_from : (done rest : List Record) → HaveNoFault (done ++ rest) → All HasPlayer rest
 players_from done [] fine = All-nil HasPlayer
 players_from done (r ∷ rest) fine =
-    All-cons HasPlayer r rest (has_player done r (fine done rest r refl)) (players_from (done ++ r ∷ []) rest (subst HaveNoFault (sym (append_assoc done (r ∷ []) rest)) fine))
+    All-cons HasPlayer r rest (has_player done r (fine done rest r refl))
+    (players_from (done ++ r ∷ []) rest (subst HaveNoFault (sym (append_assoc done (r ∷ []) rest)) fine))
 
 -- The tests on sets, of an entry that has one.
 
@@ -54,21 +58,24 @@ module _ (rs : List Record) (r : Record) (fine : HaveNoFault rs) (player : HasPl
       ↔ ((length rs + 1 ≡ length rs + 1) × IsNewSet rs r × (r.set.actions ≡ None))
   undefined_decides =
       guarded (has_set r.kind) (is_set_undefined (table_of rs r) r.set) _ (λ h. set_needed rs r h.1)
-      (λ s. let tells = subst (λ (t : List SetEntry). (is_set_undefined t r.set ≡ true) ↔ (IsNewSet rs r × (r.set.actions ≡ None))) (sym (own s)) (undefined_tells rs r (at_place s)) in
+      (λ s. let tells = subst (λ (t : List SetEntry). (is_set_undefined t r.set ≡ true) ↔ (IsNewSet rs r × (r.set.actions ≡ None))) (sym (own s))
+      (undefined_tells rs r (at_place s)) in
       (λ e. let h = tells.0 e in (refl, h.0, h.1), λ h. tells.1 (h.1, h.2)))
 
   same_decides : ((has_set r.kind && set_differs (mover r) (table_of rs r) r.set) ≡ true)
       ↔ ((length rs + 1 ≡ length rs + 1) × HasOtherSet rs r)
   same_decides =
       guarded (has_set r.kind) (set_differs (mover r) (table_of rs r) r.set) _ (λ h. other_set_needed rs r h.1)
-      (λ s. let tells = subst (λ (t : List SetEntry). (set_differs (mover r) t r.set ≡ true) ↔ HasOtherSet rs r) (sym (own s)) (same_set_tells rs r fine s player players (at_place s)) in
+      (λ s. let tells = subst (λ (t : List SetEntry). (set_differs (mover r) t r.set ≡ true) ↔ HasOtherSet rs r) (sym (own s))
+      (same_set_tells rs r fine s player players (at_place s)) in
       (λ e. (refl, tells.0 e), λ h. tells.1 h.1))
 
   counted_decides : ((has_set r.kind && is_set_miscounted (table_of rs r) r.set) ≡ true)
       ↔ Breaks rs r (ActionCount (length rs + 1))
   counted_decides =
       guarded (has_set r.kind) (is_set_miscounted (table_of rs r) r.set) _ (λ h. set_needed rs r h.1)
-      (λ s. let tells = subst (λ (t : List SetEntry). (is_set_miscounted t r.set ≡ true) ↔ (IsNewSet rs r × HasNoneOrTooMany r)) (sym (own s)) (counted_tells rs r (at_place s)) in
+      (λ s. let tells = subst (λ (t : List SetEntry). (is_set_miscounted t r.set ≡ true) ↔ (IsNewSet rs r × HasNoneOrTooMany r)) (sym (own s))
+      (counted_tells rs r (at_place s)) in
       (λ e. let h = tells.0 e in (refl, h.0, h.1), λ h. tells.1 (h.1, h.2)))
 
   -- The tests on outcomes.
@@ -156,15 +163,18 @@ entry_fault_is_first_broken rs r fault fine =
     let rise = rises (length rs) (table_of rs r) (outcome_table rs) r in
     let cover = covers rs r (table_of rs r) (outcome_table rs) in (
       λ e.
-          let least = first_is_least (Breaks rs r) 6 (entry_faults (length rs) (table_of rs r) (outcome_table rs) r) (decides rs r fine) rise fault (sym (answer rs r) ∙ e) in
+          let least = first_is_least (Breaks rs r) 6 (entry_faults (length rs) (table_of rs r) (outcome_table rs) r) (decides rs r fine) rise fault
+          (sym (answer rs r) ∙ e) in
           record { broken = least.holds; none_before = λ other less is. least.none_before other (cover other is) less is },
       λ is. answer rs r
-          ∙ least_is_first (Breaks rs r) 6 (entry_faults (length rs) (table_of rs r) (outcome_table rs) r) (decides rs r fine) rise fault (cover fault is.broken) is.broken is.none_before,
+          ∙ least_is_first (Breaks rs r) 6 (entry_faults (length rs) (table_of rs r) (outcome_table rs) r) (decides rs r fine) rise fault
+          (cover fault is.broken) is.broken is.none_before,
     )
 
 -- there is none exactly where none is broken
 pub no_fault_breaks_none : NoFaultBreaksNone
 no_fault_breaks_none rs r fine = (
-  λ e fault is. none_met_none (Breaks rs r) (entry_faults (length rs) (table_of rs r) (outcome_table rs) r) (decides rs r fine) (sym (answer rs r) ∙ e) fault (covers rs r (table_of rs r) (outcome_table rs) fault is) is,
+  λ e fault is. none_met_none (Breaks rs r) (entry_faults (length rs) (table_of rs r) (outcome_table rs) r) (decides rs r fine) (sym (answer rs r) ∙ e) fault
+      (covers rs r (table_of rs r) (outcome_table rs) fault is) is,
   λ none. answer rs r ∙ none_holds_none_met (Breaks rs r) (entry_faults (length rs) (table_of rs r) (outcome_table rs) r) (decides rs r fine) none,
 )

@@ -1,10 +1,12 @@
 -- Behind entries without a fault each test of an entry tells whether it breaks the test's rule.
-use Rattle.std.proofs.Common.{◌≡◌, ◌≢◌, ℕ, ◌+◌, Bool, true, false, cond, ◌&&◌, ◌||◌, not, List, [], ◌∷◌, length, get_or, map, Some, None, ◌⊎◌, inl, inr, ◌↔◌, refl, sym, ap, ◌∙◌, subst}
+use Rattle.std.proofs.Common.{◌≡◌, ◌≢◌, ℕ, ◌+◌, Bool, true, false, cond, ◌&&◌, ◌||◌, not, List, [], ◌∷◌, length, get_or, map, Some, None, ◌⊎◌, inl, inr, ◌↔◌}
+use Rattle.std.proofs.Common.{refl, sym, ap, ◌∙◌, subst}
 use Rattle.std.specs.Prelude.{All, nat_eq, filter, is_none, unwrap_or}
 use Rattle.std.specs.Option.{option_map_or}
 use Rattle.std.specs.Cmp.Lexicographic.{pointwise}
 use Rattle.std.proofs.Math.Logic.{⊎_elim}
-use Rattle.std.proofs.lemmas.Bool.{false≢true, and_parts, and_from, or_from, or_parts, not-true, not-false, not_from_false, false_from_ne_true, eqb-true, eqb-false, eq-eqb, ne_eqb}
+use Rattle.std.proofs.lemmas.Bool.{false≢true, and_parts, and_from, or_from, or_parts, not-true, not-false, not_from_false, false_from_ne_true, eqb-true}
+use Rattle.std.proofs.lemmas.Bool.{eqb-false, eq-eqb, ne_eqb}
 use Rattle.def_fraction.specs.Fraction.{Fraction, zero_fraction}
 use Rattle.def_tree.specs.declared.Kind.{Kind}
 use Rattle.def_tree.specs.declared.Kind.TheVariants as movers
@@ -14,15 +16,20 @@ use Rattle.def_file.specs.declared.EntryKind.{EntryKind}
 use Rattle.def_file.specs.declared.EntryKind.TheVariants.{Chance, Personal, Leaf}
 use Rattle.def_file.specs.declared.FileFault.TheVariants.{SetUndefined, OutcomeUndefined, PayoffCount}
 use Rattle.def_file.specs.Content.{Action, Record, SetEntry, OutcomeEntry}
-use Rattle.def_file.specs.Faults.{mover, mover_as, has_set, has_player, is_no_player, no_set, set_at, set_place_of, outcome_at, outcome_place_of, null_outcome, is_set_undefined, set_differs, is_set_miscounted, has_wrong_count, has_wrong_payoffs, same_action, same_value, name_differs, actions_differ, payoffs_differ}
+use Rattle.def_file.specs.Faults.{mover, mover_as, has_set, has_player, is_no_player, no_set, set_at, set_place_of, outcome_at, outcome_place_of, null_outcome}
+use Rattle.def_file.specs.Faults.{is_set_undefined, set_differs, is_set_miscounted, has_wrong_count, has_wrong_payoffs, same_action, same_value, name_differs}
+use Rattle.def_file.specs.Faults.{actions_differ, payoffs_differ}
 use Rattle.def_file.specs.Adding.{nth_payoff}
-use Rattle.def_file.specs.Entries.{first_given, given_first, of_kind, mentions, set_entry, set_table, with_outcome, outcome_mentions, outcome_entry, outcome_table}
-use Rattle.def_file.specs.EntryRules.{Moves, MentionOneSet, MentionOneOutcome, IsFirstWith, AreSameNumbers, AreSameActions, HasOtherName, HasOtherList, HasNoPlayer, IsNewSet, IsNewOutcome, HasOtherSet, HasOtherZeros, HasOtherOutcome, HasOtherThanTwo, HasNoneOrTooMany}
+use Rattle.def_file.specs.Entries.{first_given, given_first, of_kind, mentions, set_entry, set_table, with_outcome, outcome_mentions, outcome_entry}
+use Rattle.def_file.specs.Entries.{outcome_table}
+use Rattle.def_file.specs.EntryRules.{Moves, MentionOneSet, MentionOneOutcome, IsFirstWith, AreSameNumbers, AreSameActions, HasOtherName, HasOtherList}
+use Rattle.def_file.specs.EntryRules.{HasNoPlayer, IsNewSet, IsNewOutcome, HasOtherSet, HasOtherZeros, HasOtherOutcome, HasOtherThanTwo, HasNoneOrTooMany}
 use Rattle.def_file.specs.EntryLaws.{HaveNoFault}
 use Rattle.def_file.proofs.Tables.{is_new, is_known, found-cases}
 use Rattle.def_file.proofs.EntryAddsToTables.{set_key, outcome_key}
 use Rattle.def_file.proofs.FirstWith.{TellsWhere, filter-filter, none_with, none_is_first, first_with}
-use Rattle.def_file.proofs.Differs.{either, none_if, some_if, name_tells, other_list, list_tells, actions_other, payoffs_other, other_given, numbers_tell, actions_tell, count_tells, two_tells}
+use Rattle.def_file.proofs.Differs.{either, none_if, some_if, name_tells, other_list, list_tells, actions_other, payoffs_other, other_given, numbers_tell}
+use Rattle.def_file.proofs.Differs.{actions_tell, count_tells, two_tells}
 
 -- Players.
 
@@ -39,7 +46,8 @@ player_tells r = (
       let neither = or_parts (nat_eq r.player 1) (nat_eq r.player 2) (not-true (nat_eq r.player 1 || nat_eq r.player 2) parts.1) in
       record { personal = has_player-true r.kind parts.0; not_one = eqb-false r.player 1 neither.0; not_two = eqb-false r.player 2 neither.1 },
   λ h. and_from (has_player r.kind) (not (nat_eq r.player 1 || nat_eq r.player 2)) (ap has_player h.personal)
-      (not_from_false (nat_eq r.player 1 || nat_eq r.player 2) (or_from (nat_eq r.player 1) (nat_eq r.player 2) (ne_eqb r.player 1 h.not_one) (ne_eqb r.player 2 h.not_two))),
+      (not_from_false (nat_eq r.player 1 || nat_eq r.player 2) (or_from (nat_eq r.player 1) (nat_eq r.player 2) (ne_eqb r.player 1 h.not_one)
+      (ne_eqb r.player 2 h.not_two))),
 )
 
 -- chance moves, or one of the two players, or it is a leaf
@@ -102,7 +110,8 @@ set_tells r x s h k = (forth, back)
     back : MentionOneSet r x → in_set r x ≡ true
     back m =
         let same : mover x ≡ mover r = moved m.who x m.there ∙ sym (moved m.who r m.here) in
-        and_from (is_same_kind (mover r) (mover x)) (nat_eq r.set.number x.set.number) (is_same_kind_self (mover r) (mover x) same) (eq-eqb r.set.number x.set.number m.number)
+        and_from (is_same_kind (mover r) (mover x)) (nat_eq r.set.number x.set.number) (is_same_kind_self (mover r) (mover x) same)
+        (eq-eqb r.set.number x.set.number m.number)
 
 sets_tell : (rs : List Record) (r : Record) → has_set r.kind ≡ true → HasPlayer r → All HasPlayer rs
     → TellsWhere (in_set r) (MentionOneSet r) rs
@@ -124,8 +133,13 @@ pub set_place : (rs : List Record) (r : Record) → has_set r.kind ≡ true → 
 set_place rs r s h all =
     let tells = sets_tell rs r s h all in
     elim (found-cases (λ (e : SetEntry). e.number) no_set (set_entry (mover r) rs) (λ m. refl) set_key r.set.number (of_kind (mover r) rs)) [
-      | is_new none hits ↦ new_set none (record { who = mover r; moves = moves r s h; none = none_with (in_set r) (MentionOneSet r) rs tells (sym (set_mentions rs r) ∙ hits) })
-      | is_known i some at hits ↦ known_set i some at hits.0 hits.1 hits.2 (first_with (in_set r) (MentionOneSet r) rs tells hits.0 hits.1 (sym (set_mentions rs r) ∙ hits.2))
+      | is_new none hits ↦ new_set none (record {
+        who = mover r;
+        moves = moves r s h;
+        none = none_with (in_set r) (MentionOneSet r) rs tells (sym (set_mentions rs r) ∙ hits);
+      })
+      | is_known i some at hits ↦ known_set i some at hits.0 hits.1 hits.2
+          (first_with (in_set r) (MentionOneSet r) rs tells hits.0 hits.1 (sym (set_mentions rs r) ∙ hits.2))
     ]
 
 known_not_new : (rs : List Record) (r e : Record) → IsFirstWith (MentionOneSet r) rs e → IsNewSet rs r → ⊥
@@ -159,8 +173,18 @@ listed : (rs : List Record) (r e : Record) → HaveNoFault rs → IsFirstWith (M
 listed rs r e none first =
     let m = first.has in
     let again : (x : Record) → MentionOneSet e x → MentionOneSet r x = λ x n.
-    record { who = m.who; here = m.here; there = subst (λ who. Moves who x) (sym (moved n.who e n.here) ∙ moved m.who e m.there) n.there; number = m.number ∙ n.number } in
-    let new : IsNewSet first.before e = record { who = m.who; moves = m.there; none = λ k d within n. first.first k d within (again (get_or first.before k d) n) } in
+    record {
+      who = m.who;
+      here = m.here;
+      there = subst (λ who. Moves who x) (sym (moved n.who e n.here) ∙ moved m.who e m.there) n.there;
+      number = m.number
+          ∙ n.number;
+    } in
+    let new : IsNewSet first.before e = record {
+      who = m.who;
+      moves = m.there;
+      none = λ k d within n. first.first k d within (again (get_or first.before k d) n);
+    } in
     some_if e.set.actions (λ without. none first.before first.behind e first.place (SetUndefined (length first.before + 1)) (refl, new, without))
 
 other_needs_first : (rs : List Record) (r : Record) → IsNewSet rs r → HasOtherSet rs r → ⊥
@@ -176,7 +200,8 @@ pub same_set_tells : (rs : List Record) (r : Record) → HaveNoFault rs → has_
     → (set_differs (mover r) (set_table (mover r) rs) r.set ≡ true) ↔ HasOtherSet rs r
 same_set_tells rs r fine s h all (new_set none new) =
     never (set_differs (mover r) (set_table (mover r) rs) r.set) (HasOtherSet rs r)
-    (ap (λ o. option_map_or (λ i. name_differs (set_at (set_table (mover r) rs) i).name r.set.name || actions_differ (mover r) (set_at (set_table (mover r) rs) i).actions r.set.actions) o false) none)
+    (ap (λ o. option_map_or (λ i. name_differs (set_at (set_table (mover r) rs) i).name r.set.name
+    || actions_differ (mover r) (set_at (set_table (mover r) rs) i).actions r.set.actions) o false) none)
     (other_needs_first rs r new)
 same_set_tells rs r fine s h all (known_set i some at e more hits first) =
     let table = set_table (mover r) rs in
@@ -184,14 +209,16 @@ same_set_tells rs r fine s h all (known_set i some at e more hits first) =
     let kept : SetEntry = set_entry (mover r) rs r.set.number in
     let name : kept.name ≡ first_given (map (λ x. x.set.name) (filter (in_set r) rs)) = ap (λ ms. first_given (map (λ x. x.set.name) ms)) (set_mentions rs r) in
     let actions : kept.actions ≡ list.0 = ap (λ ms. given_first (map (λ x. x.set.actions) ms)) hits ∙ ap (λ o. unwrap_or o []) list.1 in
-    let test : set_differs (mover r) table r.set ≡ (name_differs (first_given (map (λ x. x.set.name) (filter (in_set r) rs))) r.set.name || other_list (pointwise (same_action (mover r))) list.0 r.set.actions) =
+    let test : set_differs (mover r) table r.set ≡ (name_differs (first_given (map (λ x. x.set.name) (filter (in_set r) rs))) r.set.name
+    || other_list (pointwise (same_action (mover r))) list.0 r.set.actions) =
     ap (λ o. option_map_or (λ i. name_differs (set_at table i).name r.set.name || actions_differ (mover r) (set_at table i).actions r.set.actions) o false) some
     ∙ ap (λ (entry : SetEntry). name_differs entry.name r.set.name || actions_differ (mover r) entry.actions r.set.actions) at
     ∙ ap (λ n. name_differs n r.set.name || actions_differ (mover r) kept.actions r.set.actions) name
     ∙ ap (λ ks. name_differs (first_given (map (λ x. x.set.name) (filter (in_set r) rs))) r.set.name || actions_differ (mover r) ks r.set.actions) actions
     ∙ ap (λ b. name_differs (first_given (map (λ x. x.set.name) (filter (in_set r) rs))) r.set.name || b) (actions_other (mover r) list.0 r.set.actions) in
     let names = name_tells (in_set r) (MentionOneSet r) (λ x. x.set.name) rs r (sets_tell rs r s h all) in
-    let lists = list_tells (MentionOneSet r) (λ x. x.set.actions) (pointwise (same_action (mover r))) (AreSameActions r.kind) rs r e list.0 (actions_tell (mover r) r (moves r s h) list.0) first list.1 in
+    let lists = list_tells (MentionOneSet r) (λ x. x.set.actions) (pointwise (same_action (mover r))) (AreSameActions r.kind) rs r e list.0
+    (actions_tell (mover r) r (moves r s h) list.0) first list.1 in
     let both = either _ _ _ _ names lists in
     (λ x. both.0 (sym test ∙ x), λ x. test ∙ both.1 x)
 
@@ -212,7 +239,8 @@ outcome_tells r x = (
       let some : x.outcome.number ≢ 0 = eqb-false x.outcome.number 0 (not-true (nat_eq x.outcome.number 0) parts.0) in
       record { number = same; not_null = λ zero. some (sym same ∙ zero) },
   λ m. and_from (has_outcome x) (nat_eq r.outcome.number x.outcome.number)
-      (not_from_false (nat_eq x.outcome.number 0) (ne_eqb x.outcome.number 0 (λ zero. m.not_null (m.number ∙ zero)))) (eq-eqb r.outcome.number x.outcome.number m.number),
+      (not_from_false (nat_eq x.outcome.number 0) (ne_eqb x.outcome.number 0 (λ zero. m.not_null (m.number ∙ zero))))
+      (eq-eqb r.outcome.number x.outcome.number m.number),
 )
 
 outcomes_tell : (rs : List Record) (r : Record) → TellsWhere (in_outcome r) (MentionOneOutcome r) rs
@@ -233,8 +261,13 @@ pub data OutcomePlace (rs : List Record) (r : Record) : Type 0 where
 pub outcome_place : (rs : List Record) (r : Record) → r.outcome.number ≢ 0 → OutcomePlace rs r
 outcome_place rs r some =
     elim (found-cases (λ (e : OutcomeEntry). e.number) null_outcome (outcome_entry rs) (λ m. refl) outcome_key r.outcome.number (with_outcome rs)) [
-      | is_new none hits ↦ new_outcome none (record { not_null = some; none = none_with (in_outcome r) (MentionOneOutcome r) rs (outcomes_tell rs r) (sym (outcome_mentions_are rs r) ∙ hits) })
-      | is_known i found at hits ↦ known_outcome i found at hits.0 hits.1 hits.2 (first_with (in_outcome r) (MentionOneOutcome r) rs (outcomes_tell rs r) hits.0 hits.1 (sym (outcome_mentions_are rs r) ∙ hits.2))
+      | is_new none hits ↦ new_outcome none (record {
+        not_null = some;
+        none = none_with (in_outcome r) (MentionOneOutcome r) rs (outcomes_tell rs r)
+            (sym (outcome_mentions_are rs r) ∙ hits);
+      })
+      | is_known i found at hits ↦ known_outcome i found at hits.0 hits.1 hits.2
+          (first_with (in_outcome r) (MentionOneOutcome r) rs (outcomes_tell rs r) hits.0 hits.1 (sym (outcome_mentions_are rs r) ∙ hits.2))
     ]
 
 known_not_new_outcome : (rs : List Record) (r e : Record) → IsFirstWith (MentionOneOutcome r) rs e → IsNewOutcome rs r
@@ -246,7 +279,8 @@ pub outcome_undefined_tells : (rs : List Record) (r : Record) → OutcomePlace r
     → ((is_none (outcome_place_of r.outcome.number (outcome_table rs)) && is_none r.outcome.payoffs) ≡ true)
     ↔ (IsNewOutcome rs r × (r.outcome.payoffs ≡ None))
 outcome_undefined_tells rs r (new_outcome none new) =
-    let test : (is_none (outcome_place_of r.outcome.number (outcome_table rs)) && is_none r.outcome.payoffs) ≡ is_none r.outcome.payoffs = ap (λ o. is_none o && is_none r.outcome.payoffs) none in
+    let test : (is_none (outcome_place_of r.outcome.number (outcome_table rs)) && is_none r.outcome.payoffs)
+    ≡ is_none r.outcome.payoffs = ap (λ o. is_none o && is_none r.outcome.payoffs) none in
     (λ h. (new, none_if r.outcome.payoffs (sym test ∙ h)), λ p. test ∙ ap is_none p.1)
 outcome_undefined_tells rs r (known_outcome i some at e more hits first) =
     never _ _ (ap (λ o. is_none o && is_none r.outcome.payoffs) some) (λ p. known_not_new_outcome rs r e first p.0)
@@ -256,7 +290,8 @@ pub outcome_counted_tells : (rs : List Record) (r : Record) → OutcomePlace rs 
     → ((is_none (outcome_place_of r.outcome.number (outcome_table rs)) && has_wrong_payoffs r.outcome.payoffs) ≡ true)
     ↔ (IsNewOutcome rs r × HasOtherThanTwo r)
 outcome_counted_tells rs r (new_outcome none new) =
-    let test : (is_none (outcome_place_of r.outcome.number (outcome_table rs)) && has_wrong_payoffs r.outcome.payoffs) ≡ has_wrong_payoffs r.outcome.payoffs = ap (λ o. is_none o && has_wrong_payoffs r.outcome.payoffs) none in
+    let test : (is_none (outcome_place_of r.outcome.number (outcome_table rs)) && has_wrong_payoffs r.outcome.payoffs)
+    ≡ has_wrong_payoffs r.outcome.payoffs = ap (λ o. is_none o && has_wrong_payoffs r.outcome.payoffs) none in
     (λ h. (new, (two_tells r.outcome.payoffs).0 (sym test ∙ h)), λ p. test ∙ (two_tells r.outcome.payoffs).1 p.1)
 outcome_counted_tells rs r (known_outcome i some at e more hits first) =
     never _ _ (ap (λ o. is_none o && has_wrong_payoffs r.outcome.payoffs) some) (λ p. known_not_new_outcome rs r e first p.0)
@@ -276,7 +311,8 @@ paid rs r e none first =
       not_null = λ zero. m.not_null (m.number ∙ zero);
       none = λ k d within n. first.first k d within (record { number = m.number ∙ n.number; not_null = m.not_null });
     } in
-    let list = some_if e.outcome.payoffs (λ without. none first.before first.behind e first.place (OutcomeUndefined (length first.before + 1)) (refl, new, without)) in
+    let list = some_if e.outcome.payoffs (λ without. none first.before first.behind e first.place (OutcomeUndefined (length first.before + 1))
+    (refl, new, without)) in
     let two : length list.0 ≡ 2 = eqb-true (length list.0) 2 (not-false (nat_eq (length list.0) 2)
     (false_from_ne_true (not (nat_eq (length list.0) 2)) (λ other.
     none first.before first.behind e first.place (PayoffCount (length first.before + 1))
@@ -284,11 +320,13 @@ paid rs r e none first =
     (list.0, list.1, two)
 
 same_outcome_tells : (rs : List Record) (r : Record) → HaveNoFault rs → OutcomePlace rs r
-    → (option_map_or (λ i. name_differs (outcome_at (outcome_table rs) i).name r.outcome.name || payoffs_differ (outcome_at (outcome_table rs) i) r.outcome.payoffs) (outcome_place_of r.outcome.number (outcome_table rs)) false ≡ true)
+    → (option_map_or (λ i. name_differs (outcome_at (outcome_table rs) i).name r.outcome.name
+    || payoffs_differ (outcome_at (outcome_table rs) i) r.outcome.payoffs) (outcome_place_of r.outcome.number (outcome_table rs)) false ≡ true)
     ↔ (HasOtherName (MentionOneOutcome r) (λ e. e.outcome.name) rs r ⊎ HasOtherList (MentionOneOutcome r) (λ e. e.outcome.payoffs) AreSameNumbers rs r)
 same_outcome_tells rs r fine (new_outcome none new) =
     never _ _
-    (ap (λ o. option_map_or (λ i. name_differs (outcome_at (outcome_table rs) i).name r.outcome.name || payoffs_differ (outcome_at (outcome_table rs) i) r.outcome.payoffs) o false) none)
+    (ap (λ o. option_map_or (λ i. name_differs (outcome_at (outcome_table rs) i).name r.outcome.name
+    || payoffs_differ (outcome_at (outcome_table rs) i) r.outcome.payoffs) o false) none)
     (λ h. ⊎_elim
     (λ name. none_is_first (λ x. MentionOneOutcome r x × (x.outcome.name ≢ None)) (MentionOneOutcome r) (λ x m. m.0) rs name.entry new.none name.first)
     (λ list. none_is_first (MentionOneOutcome r) (MentionOneOutcome r) (λ x m. m) rs list.entry new.none list.first)
@@ -297,18 +335,24 @@ same_outcome_tells rs r fine (known_outcome i some at e more hits first) =
     let table = outcome_table rs in
     let list = paid rs r e fine first in
     let kept : OutcomeEntry = outcome_entry rs r.outcome.number in
-    let name : kept.name ≡ first_given (map (λ x. x.outcome.name) (filter (in_outcome r) rs)) = ap (λ ms. first_given (map (λ x. x.outcome.name) ms)) (outcome_mentions_are rs r) in
-    let payoffs : given_first (map (λ x. x.outcome.payoffs) (outcome_mentions r.outcome.number rs)) ≡ list.0 = ap (λ ms. given_first (map (λ x. x.outcome.payoffs) ms)) hits ∙ ap (λ o. unwrap_or o []) list.1 in
+    let name : kept.name ≡ first_given (map (λ x. x.outcome.name) (filter (in_outcome r) rs)) = ap (λ ms. first_given (map (λ x. x.outcome.name) ms))
+    (outcome_mentions_are rs r) in
+    let payoffs : given_first (map (λ x. x.outcome.payoffs) (outcome_mentions r.outcome.number rs))
+    ≡ list.0 = ap (λ ms. given_first (map (λ x. x.outcome.payoffs) ms)) hits ∙ ap (λ o. unwrap_or o []) list.1 in
     let both_payoffs : kept.one ∷ kept.two ∷ [] ≡ list.0 = ap (λ ps. nth_payoff ps 0 ∷ nth_payoff ps 1 ∷ []) payoffs ∙ two_payoffs list.0 list.2 in
-    let test : option_map_or (λ i. name_differs (outcome_at table i).name r.outcome.name || payoffs_differ (outcome_at table i) r.outcome.payoffs) (outcome_place_of r.outcome.number table) false
-    ≡ (name_differs (first_given (map (λ x. x.outcome.name) (filter (in_outcome r) rs))) r.outcome.name || other_list (pointwise same_value) list.0 r.outcome.payoffs) =
+    let test : option_map_or (λ i. name_differs (outcome_at table i).name r.outcome.name || payoffs_differ (outcome_at table i) r.outcome.payoffs)
+    (outcome_place_of r.outcome.number table) false
+    ≡ (name_differs (first_given (map (λ x. x.outcome.name) (filter (in_outcome r) rs))) r.outcome.name
+    || other_list (pointwise same_value) list.0 r.outcome.payoffs) =
     ap (λ o. option_map_or (λ i. name_differs (outcome_at table i).name r.outcome.name || payoffs_differ (outcome_at table i) r.outcome.payoffs) o false) some
     ∙ ap (λ (entry : OutcomeEntry). name_differs entry.name r.outcome.name || payoffs_differ entry r.outcome.payoffs) at
     ∙ ap (λ n. name_differs n r.outcome.name || payoffs_differ kept r.outcome.payoffs) name
     ∙ ap (λ b. name_differs (first_given (map (λ x. x.outcome.name) (filter (in_outcome r) rs))) r.outcome.name || b) (payoffs_other kept r.outcome.payoffs)
-    ∙ ap (λ ps. name_differs (first_given (map (λ x. x.outcome.name) (filter (in_outcome r) rs))) r.outcome.name || other_list (pointwise same_value) ps r.outcome.payoffs) both_payoffs in
+    ∙ ap (λ ps. name_differs (first_given (map (λ x. x.outcome.name) (filter (in_outcome r) rs))) r.outcome.name
+    || other_list (pointwise same_value) ps r.outcome.payoffs) both_payoffs in
     let names = name_tells (in_outcome r) (MentionOneOutcome r) (λ x. x.outcome.name) rs r (outcomes_tell rs r) in
-    let lists = list_tells (MentionOneOutcome r) (λ x. x.outcome.payoffs) (pointwise same_value) AreSameNumbers rs r e list.0 (numbers_tell list.0) first list.1 in
+    let lists = list_tells (MentionOneOutcome r) (λ x. x.outcome.payoffs) (pointwise same_value) AreSameNumbers rs r e list.0 (numbers_tell list.0) first
+    list.1 in
     let both = either _ _ _ _ names lists in
     (λ x. both.0 (sym test ∙ x), λ x. test ∙ both.1 x)
 
@@ -328,7 +372,8 @@ zeros_tell rs r null = (forth, back)
     other : HasOtherZeros r → payoffs_differ null_outcome r.outcome.payoffs ≡ true
     other h =
         ap (payoffs_differ null_outcome) h.gives
-        ∙ not_from_false (pointwise same_value zeros h.given) (false_from_ne_true (pointwise same_value zeros h.given) (λ s. h.differ ((numbers_tell zeros h.given).0 s)))
+        ∙ not_from_false (pointwise same_value zeros h.given) (false_from_ne_true (pointwise same_value zeros h.given)
+        (λ s. h.differ ((numbers_tell zeros h.given).0 s)))
 
     back : HasOtherOutcome rs r → payoffs_differ null_outcome r.outcome.payoffs ≡ true
     back h =
@@ -340,7 +385,8 @@ zeros_tell rs r null = (forth, back)
 -- another outcome is compared with what is known of it
 pub other_outcome_tells : (rs : List Record) (r : Record) → HaveNoFault rs → (b : Bool) → nat_eq r.outcome.number 0 ≡ b
     → (cond b (payoffs_differ null_outcome r.outcome.payoffs)
-    (option_map_or (λ i. name_differs (outcome_at (outcome_table rs) i).name r.outcome.name || payoffs_differ (outcome_at (outcome_table rs) i) r.outcome.payoffs) (outcome_place_of r.outcome.number (outcome_table rs)) false)
+    (option_map_or (λ i. name_differs (outcome_at (outcome_table rs) i).name r.outcome.name
+    || payoffs_differ (outcome_at (outcome_table rs) i) r.outcome.payoffs) (outcome_place_of r.outcome.number (outcome_table rs)) false)
     ≡ true) ↔ HasOtherOutcome rs r
 other_outcome_tells rs r fine true e = zeros_tell rs r (eqb-true r.outcome.number 0 e)
 other_outcome_tells rs r fine false e =

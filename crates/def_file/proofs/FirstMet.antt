@@ -47,7 +47,8 @@ first_is_least B k ((true, f0) ∷ ts) decide rise f e =
       none_before = λ g among less _.
           ⊎_elim
           (λ here. not_below g f0 here (subst (λ x. fault_number g < fault_number x) (sym same) less))
-          (λ there. let later = above (fault_number f0) ts rise.1 g there in let under = subst (λ x. fault_number g < fault_number x) (sym same) less in omega (arith, later, under))
+          (λ there. let later = above (fault_number f0) ts rise.1 g there in let under = subst (λ x. fault_number g < fault_number x) (sym same) less in omega
+          (arith, later, under))
           among;
     }
 first_is_least B k ((false, f0) ∷ ts) decide rise f e =

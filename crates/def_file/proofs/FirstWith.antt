@@ -1,5 +1,6 @@
 -- The first entry with a property, by a test that tells the property.
-use Rattle.std.proofs.Common.{◌≡◌, ◌≢◌, ℕ, Bool, true, false, cond, ◌&&◌, List, [], ◌∷◌, ◌++◌, map, Option, Some, None, ◌⊎◌, ◌↔◌, refl, sym, ap, ◌∙◌, subst, inl, inr}
+use Rattle.std.proofs.Common.{◌≡◌, ◌≢◌, ℕ, Bool, true, false, cond, ◌&&◌, List, [], ◌∷◌, ◌++◌, map, Option, Some, None, ◌⊎◌, ◌↔◌, refl, sym, ap, ◌∙◌, subst}
+use Rattle.std.proofs.Common.{inl, inr}
 use Rattle.std.specs.Prelude.{All, filter}
 use Rattle.std.proofs.Math.Logic.{⊎_elim}
 use Rattle.std.proofs.lemmas.Bool.{false≢true}
@@ -29,7 +30,8 @@ fails t P x rs tells e is = false≢true (sym e ∙ (tells_first t P x rs tells)
 pub filter-filter : (p q : Record → Bool) (rs : List Record) → filter q (filter p rs) ≡ filter (λ x. p x && q x) rs
 filter-filter p q [] = refl
 filter-filter p q (x ∷ rs) =
-    elim (p x) as (λ (b : Bool). filter q (cond b (x ∷ filter p rs) (filter p rs)) ≡ cond (b && q x) (x ∷ filter (λ y. p y && q y) rs) (filter (λ y. p y && q y) rs))
+    elim (p x) as (λ (b : Bool). filter q (cond b (x ∷ filter p rs) (filter p rs))
+    ≡ cond (b && q x) (x ∷ filter (λ y. p y && q y) rs) (filter (λ y. p y && q y) rs))
     [ true ↦ ap (λ (ys : List Record). cond (q x) (x ∷ ys) ys) (filter-filter p q rs) | false ↦ filter-filter p q rs ]
 
 -- no entry has the property where none passes the test
@@ -70,7 +72,10 @@ split_cases P x rs e [] behind place has first = inl (cc, has)
 split_cases P x rs e (y ∷ before) behind place has first =
     let same : y ≡ x = cc in
     let rest : rs ≡ before ++ e ∷ behind = cc in
-    inr (subst (λ z. ¬ (P z)) same (All-head (λ z. ¬ (P z)) y before first), record { before = before; behind = behind; place = rest; has = has; first = All-tail (λ z. ¬ (P z)) y before first })
+    inr (
+      subst (λ z. ¬ (P z)) same (All-head (λ z. ¬ (P z)) y before first),
+      record { before = before; behind = behind; place = rest; has = has; first = All-tail (λ z. ¬ (P z)) y before first },
+    )
 
 -- the first entry of some is the first of all, or it is behind that
 pub first_cases : (P : Record → Type 0) (x : Record) (rs : List Record) (e : Record) → IsFirstWith P (x ∷ rs) e

@@ -58,7 +58,8 @@ firsts-seen n (m ∷ ns) h = seen_step n m ns (nat_eq n m) (among n ns) refl ref
 -- the numbers stay the same ones, each once
 
 among_kept : (n m : ℕ) (ns : List ℕ) → nat_eq n m ≡ false → among n (filter (other m) ns) ≡ among n ns
-among_kept n m ns h = any-filter_same (λ k. nat_eq n k) (other m) true (λ k e. not_from_false (nat_eq m k) (nat_eq-sym k m (ap (λ (x : ℕ). nat_eq x m) (sym (eqb-true n k e)) ∙ h))) ns
+among_kept n m ns h = any-filter_same (λ k. nat_eq n k) (other m) true (λ k e. not_from_false (nat_eq m k)
+    (nat_eq-sym k m (ap (λ (x : ℕ). nat_eq x m) (sym (eqb-true n k e)) ∙ h))) ns
 
 among_dropped : (n : ℕ) (ns : List ℕ) → among n (filter (other n) ns) ≡ false
 among_dropped n ns = any-filter_same (λ k. nat_eq n k) (other n) false (λ k e. not_from_true (nat_eq n k) e) ns
@@ -83,12 +84,14 @@ among_filter test n [] h = refl
 among_filter test n (m ∷ ns) h =
     let parts = or_parts (nat_eq n m) (among n ns) h in
     let behind : among n (filter test ns) ≡ false = among_filter test n ns parts.1 in
-    elim (test m) as (λ (b : Bool). among n (cond b (m ∷ filter test ns) (filter test ns)) ≡ false) [ true ↦ ap (λ (b : Bool). b || among n (filter test ns)) parts.0 ∙ behind | false ↦ behind ]
+    elim (test m) as (λ (b : Bool). among n (cond b (m ∷ filter test ns) (filter test ns)) ≡ false)
+    [ true ↦ ap (λ (b : Bool). b || among n (filter test ns)) parts.0 ∙ behind | false ↦ behind ]
 
 Distinct_filter : (test : ℕ → Bool) (ns : List ℕ) → Distinct ns → Distinct (filter test ns)
 Distinct_filter test [] h = tt
 Distinct_filter test (n ∷ ns) h =
-    elim (test n) as (λ (b : Bool). Distinct (cond b (n ∷ filter test ns) (filter test ns))) [ true ↦ (among_filter test n ns h.0, Distinct_filter test ns h.1) | false ↦ Distinct_filter test ns h.1 ]
+    elim (test n) as (λ (b : Bool). Distinct (cond b (n ∷ filter test ns) (filter test ns)))
+    [ true ↦ (among_filter test n ns h.0, Distinct_filter test ns h.1) | false ↦ Distinct_filter test ns h.1 ]
 
 -- each number stands once
 pub firsts-distinct : (ns : List ℕ) → Distinct (firsts ns)

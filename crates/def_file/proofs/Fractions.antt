@@ -1,5 +1,6 @@
 -- The fractions of tables, with one entry more.
-use Rattle.std.proofs.Common.{◌≡◌, ℕ, zero, suc, Bool, true, false, cond, nat_eq, List, [], ◌∷◌, ◌++◌, set, map, Option, Some, None, unwrap_or, refl, sym, subst, arith}
+use Rattle.std.proofs.Common.{◌≡◌, ℕ, zero, suc, Bool, true, false, cond, nat_eq, List, [], ◌∷◌, ◌++◌, set, map, Option, Some, None, unwrap_or, refl, sym}
+use Rattle.std.proofs.Common.{subst, arith}
 use Rattle.std.specs.List.{All}
 use Rattle.std.specs.Option.{option_map_or}
 use Rattle.std.proofs.lemmas.List.Elements.{All-nil, All-head, All-tail, All-push, All-set}
@@ -7,7 +8,8 @@ use Rattle.def_fraction.specs.Divisors.{gcd}
 use Rattle.def_fraction.specs.Fraction.{Fraction, IsInLowestTerms, zero_fraction}
 use Rattle.def_tree.specs.declared.Kind.{Kind}
 use Rattle.def_tree.specs.declared.Kind.TheVariants as movers
-use Rattle.def_file.specs.Content.{Action, SetEntry, SetMention, OutcomeEntry, OutcomeMention, SetTables, Record, Contents, with_sets, sets_of_kind, no_contents}
+use Rattle.def_file.specs.Content.{Action, SetEntry, SetMention, OutcomeEntry, OutcomeMention, SetTables, Record, Contents, with_sets, sets_of_kind}
+use Rattle.def_file.specs.Content.{no_contents}
 use Rattle.def_file.specs.Faults.{mover, set_at, set_place_of, null_outcome, outcome_at, outcome_place_of}
 use Rattle.def_file.specs.Adding.{kept_name, new_set, noted_set, new_outcome, noted_outcome, nth_payoff, with_record}
 use Rattle.def_file.specs.Game.{IsSmallFraction, chances_of, HasFractions}
@@ -49,8 +51,10 @@ sets_more : (table : List SetEntry) (m : SetMention)
 sets_more table m given h = by (set_place_of m.number table)
   where
     by : (place : Option ℕ)
-        → All (λ entry. All IsSmallFraction (chances_of entry)) (option_map_or (λ i. set table i (record (set_at table i) { name = kept_name (set_at table i).name m.name })) place (table ++ new_set m ∷ []))
-    by (Some i) = All-set (λ entry. All IsSmallFraction (chances_of entry)) table i (record (set_at table i) { name = kept_name (set_at table i).name m.name }) (entry_at table i h) h
+        → All (λ entry. All IsSmallFraction (chances_of entry)) (option_map_or
+        (λ i. set table i (record (set_at table i) { name = kept_name (set_at table i).name m.name })) place (table ++ new_set m ∷ []))
+    by (Some i) = All-set (λ entry. All IsSmallFraction (chances_of entry)) table i (record (set_at table i) { name = kept_name (set_at table i).name m.name })
+        (entry_at table i h) h
     by None = All-push (λ entry. All IsSmallFraction (chances_of entry)) table (new_set m) h (new_chances m.actions given)
 
 -- a payoff of a list of small fractions is one
@@ -79,7 +83,9 @@ module _ (paid : OutcomeEntry → Fraction) (at_null : IsSmallFraction (paid nul
   outcomes_more outcomes h = by (nat_eq m.number 0) (outcome_place_of m.number outcomes)
     where
       by : (null : Bool) (place : Option ℕ)
-          → All (λ e. IsSmallFraction (paid e)) (cond null outcomes (option_map_or (λ i. set outcomes i (record (outcome_at outcomes i) { name = kept_name (outcome_at outcomes i).name m.name })) place (outcomes ++ new_outcome m ∷ [])))
+          → All (λ e. IsSmallFraction (paid e)) (cond null outcomes (option_map_or
+          (λ i. set outcomes i (record (outcome_at outcomes i) { name = kept_name (outcome_at outcomes i).name m.name })) place
+          (outcomes ++ new_outcome m ∷ [])))
       by true place = h
       by false (Some i) =
           All-set (λ e. IsSmallFraction (paid e)) outcomes i (record (outcome_at outcomes i) { name = kept_name (outcome_at outcomes i).name m.name })
@@ -97,7 +103,11 @@ chance_more movers.Leaf sets m given h = h
 
 -- without entries there are no fractions
 pub no_fractions : HasFractions no_contents.sets no_contents.outcomes
-no_fractions = record { chance = All-nil (λ entry. All IsSmallFraction (chances_of entry)); one = All-nil (λ e. IsSmallFraction e.one); two = All-nil (λ e. IsSmallFraction e.two) }
+no_fractions = record {
+  chance = All-nil (λ entry. All IsSmallFraction (chances_of entry));
+  one = All-nil (λ e. IsSmallFraction e.one);
+  two = All-nil (λ e. IsSmallFraction e.two);
+}
 
 -- the tables with an entry more have such fractions, if the entry gives such
 pub fractions_with : (contents : Contents) (r : Record) → GivesFractions r

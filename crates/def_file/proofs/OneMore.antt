@@ -15,7 +15,9 @@ use Rattle.def_file.specs.Faults.{mover, mover_as, has_set}
 use Rattle.def_file.specs.Adding.{with_record, node_with, set_number, action_count}
 use Rattle.def_file.specs.Entries.{firsts, number_in, of_kind, set_numbers, set_entry, set_table, with_outcome, outcome_numbers, node_of, contents_of}
 use Rattle.def_file.proofs.Firsts.{nat_eq-same, among, number-stays}
-use Rattle.def_file.proofs.EntryAddsToTables.{set_key, set_known, numbers_more, set_number_more, action_count_more, set_number_stays, action_count_stays, own_kind, other_kind, set_tables_of, sets_more, outcome_key, some_outcome, null_mention, outcome_table_more, outcome_number_step}
+use Rattle.def_file.proofs.EntryAddsToTables.{set_key, set_known, numbers_more, set_number_more, action_count_more, set_number_stays, action_count_stays}
+use Rattle.def_file.proofs.EntryAddsToTables.{own_kind, other_kind, set_tables_of, sets_more, outcome_key, some_outcome, null_mention, outcome_table_more}
+use Rattle.def_file.proofs.EntryAddsToTables.{outcome_number_step}
 
 -- Nodes.
 
@@ -27,7 +29,10 @@ set_known_step kind rs r n true e h = (
   ap (λ xs. number_in n (firsts (map set_key xs))) (own_kind kind rs r e) ∙ set_number_stays n (of_kind kind rs) r h,
   ap (λ xs. length (set_known xs n).actions) (own_kind kind rs r e) ∙ action_count_stays n (of_kind kind rs) r h,
 )
-set_known_step kind rs r n false e h = (ap (λ xs. number_in n (firsts (map set_key xs))) (other_kind kind rs r e), ap (λ xs. length (set_known xs n).actions) (other_kind kind rs r e))
+set_known_step kind rs r n false e h = (
+  ap (λ xs. number_in n (firsts (map set_key xs))) (other_kind kind rs r e),
+  ap (λ xs. length (set_known xs n).actions) (other_kind kind rs r e),
+)
 
 outcome_known_step : (rs : List Record) (r : Record) (n : ℕ) (b : Bool) → nat_eq r.outcome.number 0 ≡ b
     → among n (map outcome_key (with_outcome rs)) ≡ true
@@ -63,8 +68,10 @@ known_behind y rs (x ∷ xs) h = (
 
 first_known : (x : Record) (rs : List Record) → IsKnown (x ∷ rs) x
 first_known x rs = record {
-  set = ap (λ (b : Bool). among x.set.number (map set_key (cond b (x ∷ of_kind (mover x) rs) (of_kind (mover x) rs)))) (is_same_kind_refl (mover x)) ∙ or_left (nat_eq x.set.number x.set.number) (among x.set.number (map set_key (of_kind (mover x) rs))) (nat_eq-same x.set.number);
-  outcome = λ e. ap (λ (b : Bool). among x.outcome.number (map outcome_key (cond (not b) (x ∷ with_outcome rs) (with_outcome rs)))) e ∙ or_left (nat_eq x.outcome.number x.outcome.number) (among x.outcome.number (map outcome_key (with_outcome rs))) (nat_eq-same x.outcome.number);
+  set = ap (λ (b : Bool). among x.set.number (map set_key (cond b (x ∷ of_kind (mover x) rs) (of_kind (mover x) rs)))) (is_same_kind_refl (mover x))
+      ∙ or_left (nat_eq x.set.number x.set.number) (among x.set.number (map set_key (of_kind (mover x) rs))) (nat_eq-same x.set.number);
+  outcome = λ e. ap (λ (b : Bool). among x.outcome.number (map outcome_key (cond (not b) (x ∷ with_outcome rs) (with_outcome rs)))) e
+      ∙ or_left (nat_eq x.outcome.number x.outcome.number) (among x.outcome.number (map outcome_key (with_outcome rs))) (nat_eq-same x.outcome.number);
 }
 
 all_known : (rs : List Record) → AreKnown rs rs
@@ -96,7 +103,8 @@ nodes_stay rs r (x ∷ xs) h =
 pub own_sets : (kind : EntryKind) (player : ℕ) (rs : List Record) → has_set kind ≡ true
     → sets_of_kind (mover_as kind player) (set_tables_of rs) ≡ set_table (mover_as kind player) rs
 own_sets Chance player rs h = refl
-own_sets Personal player rs h = elim (nat_eq player 1) as (λ (b : Bool). sets_of_kind (cond b movers.One movers.Two) (set_tables_of rs) ≡ set_table (cond b movers.One movers.Two) rs) [ true ↦ refl | false ↦ refl ]
+own_sets Personal player rs h = elim (nat_eq player 1) as (λ (b : Bool). sets_of_kind (cond b movers.One movers.Two) (set_tables_of rs)
+    ≡ set_table (cond b movers.One movers.Two) rs) [ true ↦ refl | false ↦ refl ]
 own_sets Leaf player rs h = absurd cc
 
 last_set : (rs : List Record) (r : Record) (b : Bool) → has_set r.kind ≡ b

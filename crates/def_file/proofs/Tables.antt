@@ -1,5 +1,6 @@
 -- Tables of what is known of each number, in the order of first appearance, with one more number.
-use Rattle.std.proofs.Common.{◌≡◌, ℕ, suc, ◌+◌, Bool, true, false, cond, not, ◌||◌, List, [], ◌∷◌, ◌++◌, length, map, Option, Some, None, refl, sym, ap, ◌∙◌, append-nil, arith}
+use Rattle.std.proofs.Common.{◌≡◌, ℕ, suc, ◌+◌, Bool, true, false, cond, not, ◌||◌, List, [], ◌∷◌, ◌++◌, length, map, Option, Some, None, refl, sym, ap, ◌∙◌}
+use Rattle.std.proofs.Common.{append-nil, arith}
 use Rattle.std.specs.Prelude.{nat_eq, nat_lt, filter, position, slice_set, slice_index_or, unwrap_or}
 use Rattle.std.specs.List.{position_or_len}
 use Rattle.std.specs.Option.{option_map_or}
@@ -7,7 +8,8 @@ use Rattle.std.proofs.lemmas.Bool.{eqb-true, lt-ltb, le-ltb, or_parts}
 use Rattle.std.proofs.lemmas.List.{map-append, length-map}
 use Rattle.std.proofs.lemmas.List.Elements.{filter-append}
 use Rattle.def_file.specs.Entries.{firsts, number_in}
-use Rattle.def_file.proofs.Firsts.{among, Distinct, place, nat_eq-same, nat_eq-sym, firsts-new, firsts-seen, among-firsts, firsts-distinct, place-among, place-not_among, place-new}
+use Rattle.def_file.proofs.Firsts.{among, Distinct, place, nat_eq-same, nat_eq-sym, firsts-new, firsts-seen, among-firsts, firsts-distinct, place-among}
+use Rattle.def_file.proofs.Firsts.{place-not_among, place-new}
 
 -- where a table has a number
 abbrev pub found : {E : Type 0} (number : E → ℕ) → ℕ → List E → Option ℕ
@@ -15,7 +17,8 @@ found number n table = position (λ e. nat_eq n (number e)) table
 
 -- a table with a mention of the number n
 abbrev pub noted_with : {E : Type 0} (number : E → ℕ) (none : E) (change : E → E) (fresh : E) → ℕ → List E → List E
-noted_with number none change fresh n table = option_map_or (λ i. slice_set table i (change (slice_index_or table i none))) (found number n table) (table ++ fresh ∷ [])
+noted_with number none change fresh n table = option_map_or (λ i. slice_set table i (change (slice_index_or table i none))) (found number n table)
+    (table ++ fresh ∷ [])
 
 place_map : {E : Type 0} (number : E → ℕ) (f : ℕ → E) → ((m : ℕ) → number (f m) ≡ m) → (n : ℕ) (ns : List ℕ)
     → position_or_len (λ e. nat_eq n (number e)) (map f ns) ≡ place n ns
@@ -103,14 +106,16 @@ table_step number none change fresh f g n ns true e is =
     ∙ written f g n is.stays (firsts ns) (firsts-distinct ns) here
     ∙ ap (λ v. slice_set (map f (firsts ns)) (place n (firsts ns)) v) (is.changed e)
     ∙ ap (λ v. slice_set (map f (firsts ns)) (place n (firsts ns)) (change v)) (sym (read f none n (firsts ns) here))
-    ∙ ap (λ (o : Option ℕ). option_map_or (λ i. slice_set (map f (firsts ns)) i (change (slice_index_or (map f (firsts ns)) i none))) o (map f (firsts ns) ++ fresh ∷ [])) (sym (found-seen number f is.shown n (firsts ns) here))
+    ∙ ap (λ (o : Option ℕ). option_map_or (λ i. slice_set (map f (firsts ns)) i (change (slice_index_or (map f (firsts ns)) i none))) o
+    (map f (firsts ns) ++ fresh ∷ [])) (sym (found-seen number f is.shown n (firsts ns) here))
 table_step number none change fresh f g n ns false e is =
     let out : among n (firsts ns) ≡ false = among-firsts n ns ∙ e in
     ap (map g) (firsts-new n ns e)
     ∙ map-append g (firsts ns) (n ∷ [])
     ∙ ap (λ v. map g (firsts ns) ++ v ∷ []) (is.begun e)
     ∙ ap (λ vs. vs ++ fresh ∷ []) (map_stays f g n is.stays (firsts ns) out)
-    ∙ ap (λ (o : Option ℕ). option_map_or (λ i. slice_set (map f (firsts ns)) i (change (slice_index_or (map f (firsts ns)) i none))) o (map f (firsts ns) ++ fresh ∷ [])) (sym (found-new number f is.shown n (firsts ns) out))
+    ∙ ap (λ (o : Option ℕ). option_map_or (λ i. slice_set (map f (firsts ns)) i (change (slice_index_or (map f (firsts ns)) i none))) o
+    (map f (firsts ns) ++ fresh ∷ [])) (sym (found-new number f is.shown n (firsts ns) out))
 
 -- the table with a mention more
 pub table-noted : {E : Type 0} (number : E → ℕ) (none : E) (change : E → E) (fresh : E) (f g : ℕ → E) (n : ℕ)
@@ -149,7 +154,8 @@ value_step number none h f g v shown n ns true e kept begun =
     ∙ ap (λ (o : Option ℕ). option_map_or (λ i. h (slice_index_or (map f (firsts ns)) i none)) o v) (sym (found-seen number f shown n (firsts ns) here))
 value_step number none h f g v shown n ns false e kept begun =
     begun e
-    ∙ ap (λ (o : Option ℕ). option_map_or (λ i. h (slice_index_or (map f (firsts ns)) i none)) o v) (sym (found-new number f shown n (firsts ns) (among-firsts n ns ∙ e)))
+    ∙ ap (λ (o : Option ℕ). option_map_or (λ i. h (slice_index_or (map f (firsts ns)) i none)) o v)
+    (sym (found-new number f shown n (firsts ns) (among-firsts n ns ∙ e)))
 
 -- what a function h says of the last mention's entry, by the table before it
 pub value-noted : {E B : Type 0} (number : E → ℕ) (none : E) (h : E → B) (f g : ℕ → E) (v : B)
@@ -220,5 +226,6 @@ found-cases number none f shown key n rs = by (among n (map key rs)) refl
     by : (b : Bool) → among n (map key rs) ≡ b → IsNewOrKnown number none f key n rs
     by true e =
         let here : among n (firsts (map key rs)) ≡ true = among-firsts n (map key rs) ∙ e in
-        is_known (place n (firsts (map key rs))) (found-seen number f shown n (firsts (map key rs)) here) (read f none n (firsts (map key rs)) here) (hits-some key n rs e)
+        is_known (place n (firsts (map key rs))) (found-seen number f shown n (firsts (map key rs)) here) (read f none n (firsts (map key rs)) here)
+        (hits-some key n rs e)
     by false e = is_new (found-new number f shown n (firsts (map key rs)) (among-firsts n (map key rs) ∙ e)) (hits-none key n rs e)

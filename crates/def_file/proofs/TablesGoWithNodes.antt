@@ -1,5 +1,6 @@
 -- Nodes and tables go together, with one entry more.
-use Rattle.std.proofs.Common.{◌≡◌, ◌≢◌, ℕ, ◌+◌, ◌-◌, ◌<◌, ◌≤◌, max, Bool, true, false, cond, ◌&&◌, nat_eq, List, [], ◌∷◌, ◌++◌, length, get_or, set, is_none, Option, Some, None, unwrap_or, refl, ap, sym, subst, ◌∙◌, arith, length-append, ⊎_elim}
+use Rattle.std.proofs.Common.{◌≡◌, ◌≢◌, ℕ, ◌+◌, ◌-◌, ◌<◌, ◌≤◌, max, Bool, true, false, cond, ◌&&◌, nat_eq, List, [], ◌∷◌, ◌++◌, length, get_or, set, is_none}
+use Rattle.std.proofs.Common.{Option, Some, None, unwrap_or, refl, ap, sym, subst, ◌∙◌, arith, length-append, ⊎_elim}
 use Rattle.std.specs.List.{All, position_or_len}
 use Rattle.std.specs.Option.{option_map_or}
 use Rattle.std.proofs.lemmas.Bool.{eqb-false, cases_eq}
@@ -15,7 +16,8 @@ use Rattle.def_tree.proofs.Sets.{set_count-push_same, set_count-push_other, Keep
 use Rattle.def_file.specs.declared.EntryKind.{EntryKind}
 use Rattle.def_file.specs.declared.EntryKind.TheVariants.{Chance, Personal, Leaf}
 use Rattle.def_file.specs.Content.{SetEntry, SetMention, OutcomeEntry, OutcomeMention, SetTables, Record, Contents, sets_of_kind, with_sets, no_contents}
-use Rattle.def_file.specs.Faults.{mover_as, has_set, no_set, set_at, set_place_of, outcome_place_of, outcome_at, has_wrong_count, is_set_undefined, is_set_miscounted, record_fault}
+use Rattle.def_file.specs.Faults.{mover_as, has_set, no_set, set_at, set_place_of, outcome_place_of, outcome_at, has_wrong_count, is_set_undefined}
+use Rattle.def_file.specs.Faults.{is_set_miscounted, record_fault}
 use Rattle.def_file.specs.Adding.{kept_name, new_set, noted_set, new_outcome, noted_outcome, set_number, outcome_number, action_count, with_record}
 use Rattle.def_file.specs.Game.{IsInSet, GoesWith, AreSetsOf, GoTogether, AreTogether, HasFewActions}
 use Rattle.def_file.proofs.Faultless.{at_first, faultless, place-lt, given_count}
@@ -56,7 +58,8 @@ module _ (table : List SetEntry) (m : SetMention) (small : All HasFewActions tab
           longer = omega arith;
           kept = λ j within.
               ⊎_elim
-              (λ (same : j ≡ i). ap (λ k. length (set_at (set table i (renamed i)) k).actions) same ∙ ap (λ (e : SetEntry). length e.actions) here ∙ ap (λ k. length (set_at table k).actions) (sym same))
+              (λ (same : j ≡ i). ap (λ k. length (set_at (set table i (renamed i)) k).actions) same ∙ ap (λ (e : SetEntry). length e.actions) here
+              ∙ ap (λ k. length (set_at table k).actions) (sym same))
               (λ other. ap (λ (e : SetEntry). length e.actions) (get_or-set_other table i j (renamed i) no_set other))
               (cases_eq j i);
         };
@@ -75,19 +78,24 @@ module _ (table : List SetEntry) (m : SetMention) (small : All HasFewActions tab
       let long : length (table ++ new_set m ∷ []) ≡ length table + 1 = length-append table (new_set m ∷ []) in
       let back : length table + 1 - 1 ≡ length table = omega arith in
       record {
-        grows = record { longer = omega arith; kept = λ j within. ap (λ (e : SetEntry). length e.actions) (get_or-append table (new_set m ∷ []) no_set j within) };
+        grows = record {
+          longer = omega arith;
+          kept = λ j within. ap (λ (e : SetEntry). length e.actions) (get_or-append table (new_set m ∷ []) no_set j within);
+        };
         from_one = omega arith;
         count = omega arith;
         next = omega arith;
         old = λ within. absurd (omega (arith, within));
-        here = ap (λ k. length (set_at (table ++ new_set m ∷ []) k).actions) back ∙ ap (λ (e : SetEntry). length e.actions) (get_or-append_seam table (new_set m) [] no_set);
+        here = ap (λ k. length (set_at (table ++ new_set m ∷ []) k).actions) back
+            ∙ ap (λ (e : SetEntry). length e.actions) (get_or-append_seam table (new_set m) [] no_set);
         few = few;
         all_few = All-push HasFewActions table (new_set m) small few;
       }
 
   noted_by : (place : Option ℕ) → set_place_of m.number table ≡ place → is_none place && is_none m.actions ≡ false
       → is_none place && has_wrong_count m.actions ≡ false
-      → IsMentioned table (option_map_or (λ i. set table i (renamed i)) place (table ++ new_set m ∷ [])) (unwrap_or place (length table) + 1) (option_map_or (λ i. length (set_at table i).actions) place (length (new_set m).actions))
+      → IsMentioned table (option_map_or (λ i. set table i (renamed i)) place (table ++ new_set m ∷ [])) (unwrap_or place (length table) + 1)
+      (option_map_or (λ i. length (set_at table i).actions) place (length (new_set m).actions))
   noted_by (Some i) at defined counted = known i (place-lt m.number table i at)
   noted_by None at defined counted = fresh (given_count m.actions defined counted)
 
@@ -107,7 +115,9 @@ outcomes_noted : (outcomes : List OutcomeEntry) (m : OutcomeMention)
 outcomes_noted outcomes m = by (nat_eq m.number 0) (outcome_place_of m.number outcomes) refl
   where
     by : (null : Bool) (place : Option ℕ) → outcome_place_of m.number outcomes ≡ place
-        → AreNoted outcomes (cond null outcomes (option_map_or (λ i. set outcomes i (record (outcome_at outcomes i) { name = kept_name (outcome_at outcomes i).name m.name })) place (outcomes ++ new_outcome m ∷ []))) (cond null 0 (unwrap_or place (length outcomes) + 1))
+        → AreNoted outcomes (cond null outcomes (option_map_or (λ i. set outcomes i
+        (record (outcome_at outcomes i) { name = kept_name (outcome_at outcomes i).name m.name })) place (outcomes ++ new_outcome m ∷ [])))
+        (cond null 0 (unwrap_or place (length outcomes) + 1))
     by true place at = record { longer = omega arith; next = omega arith; there = omega arith }
     by false (Some i) at =
         let within : i < length outcomes = at_first (position_or_len (λ e. nat_eq m.number e.number) outcomes) i (length outcomes) _ refl at in
@@ -121,7 +131,12 @@ outcomes_noted outcomes m = by (nat_eq m.number 0) (outcome_place_of m.number ou
 
 in_set : (table : List SetEntry) (node : Node) → 1 ≤ node.set → node.set ≤ length table
     → length (set_at table (node.set - 1)).actions ≡ node.children → IsInSet table node
-in_set table node low high actions = record { from_one = low; there = high; actions = actions; chances = length-map (set_at table (node.set - 1)).actions (λ a. a.chance) ∙ actions }
+in_set table node low high actions = record {
+  from_one = low;
+  there = high;
+  actions = actions;
+  chances = length-map (set_at table (node.set - 1)).actions (λ a. a.chance) ∙ actions;
+}
 
 -- what goes with tables goes with those that grow
 goes_on : (sets more : SetTables) (outcomes longer : List OutcomeEntry)
@@ -150,7 +165,11 @@ grow_all movers.Leaf k sets more g = same_table (sets_of_kind k sets)
 own_sets : (kind : Kind) (table more : List SetEntry) (nodes : List Node) (node : Node)
     → is_same_kind kind node.kind ≡ true → length more ≡ max node.set (length table) → All HasFewActions more
     → AreSetsOf kind nodes table → AreSetsOf kind (nodes ++ node ∷ []) more
-own_sets kind table more nodes node same count few is = record { count = let pushed = set_count-push_same kind nodes node same in let old : length table ≡ set_count kind nodes = is.count in omega (arith, pushed, count, old); few = few }
+own_sets kind table more nodes node same count few is = record {
+  count = let pushed = set_count-push_same kind nodes node same in let old : length table
+      ≡ set_count kind nodes = is.count in omega (arith, pushed, count, old);
+  few = few;
+}
 
 other_sets : (kind : Kind) (table : List SetEntry) (nodes : List Node) (node : Node)
     → is_same_kind kind node.kind ≡ false → AreSetsOf kind nodes table → AreSetsOf kind (nodes ++ node ∷ []) table
@@ -159,7 +178,12 @@ other_sets kind table nodes node other is = record { count = is.count ∙ sym (s
 module _ (contents : Contents) (name : List ℕ) (m : SetMention) (o : OutcomeMention) (held : AreTogether contents)
     (room : nat_eq (length contents.nodes) most_nodes ≡ false) where
   abbrev node_as : Kind → Node
-  node_as kind = record { kind = kind; set = set_number (sets_of_kind kind contents.sets) m; outcome = outcome_number contents.outcomes o; children = action_count (sets_of_kind kind contents.sets) m }
+  node_as kind = record {
+    kind = kind;
+    set = set_number (sets_of_kind kind contents.sets) m;
+    outcome = outcome_number contents.outcomes o;
+    children = action_count (sets_of_kind kind contents.sets) m;
+  }
 
   abbrev leaf : Node
   leaf = record { kind = movers.Leaf; set = 0; outcome = outcome_number contents.outcomes o; children = 0 }
@@ -174,11 +198,13 @@ module _ (contents : Contents) (name : List ℕ) (m : SetMention) (o : OutcomeMe
   named node = omega (arith, held.named, length-append contents.names (name ∷ []), length-append contents.nodes (node ∷ []))
 
   paid : (node : Node) → length (noted_outcome contents.outcomes o) ≤ length (contents.nodes ++ node ∷ [])
-  paid node = let next = (outcomes_noted contents.outcomes o).next in let short = held.few_outcomes in omega (arith, next, short, length-append contents.nodes (node ∷ []))
+  paid node = let next = (outcomes_noted contents.outcomes o).next in let short = held.few_outcomes in omega
+      (arith, next, short, length-append contents.nodes (node ∷ []))
 
   -- a node of a set fits those before it, which go with the table
   joins : (kind : Kind) → kind ≢ movers.Leaf → length (sets_of_kind kind contents.sets) ≡ set_count kind contents.nodes
-      → IsMentioned (sets_of_kind kind contents.sets) (noted_set (sets_of_kind kind contents.sets) m) (set_number (sets_of_kind kind contents.sets) m) (action_count (sets_of_kind kind contents.sets) m)
+      → IsMentioned (sets_of_kind kind contents.sets) (noted_set (sets_of_kind kind contents.sets) m) (set_number (sets_of_kind kind contents.sets) m)
+      (action_count (sets_of_kind kind contents.sets) m)
       → JoinsSet contents.nodes (node_as kind)
   joins kind not_leaf count n = record {
     counts = n.from_one;
@@ -190,7 +216,8 @@ module _ (contents : Contents) (name : List ℕ) (m : SetMention) (o : OutcomeMe
         let is = (held.tables k d within).set (λ leaf. not_leaf (sym same_kind ∙ leaf)) in
         let placed : IsInSet (sets_of_kind kind contents.sets) x = subst (λ who. IsInSet (sets_of_kind who contents.sets) x) same_kind is in
         let there : x.set ≤ length (sets_of_kind kind contents.sets) = placed.there in
-        sym placed.actions ∙ ap (λ s. length (set_at (sets_of_kind kind contents.sets) (s - 1)).actions) same_set ∙ n.old (subst (λ s. s ≤ length (sets_of_kind kind contents.sets)) same_set there);
+        sym placed.actions ∙ ap (λ s. length (set_at (sets_of_kind kind contents.sets) (s - 1)).actions) same_set
+        ∙ n.old (subst (λ s. s ≤ length (sets_of_kind kind contents.sets)) same_set there);
   }
 
   tables : (kind : Kind) (more : List SetEntry) (node : Node) → Grows (sets_of_kind kind contents.sets) more
@@ -198,7 +225,8 @@ module _ (contents : Contents) (name : List ℕ) (m : SetMention) (o : OutcomeMe
       → All (GoesWith (with_sets kind more contents.sets) (noted_outcome contents.outcomes o)) (contents.nodes ++ node ∷ [])
   tables kind more node grows new =
       All-push (GoesWith (with_sets kind more contents.sets) (noted_outcome contents.outcomes o)) contents.nodes node
-      (λ k d within. goes_on contents.sets (with_sets kind more contents.sets) contents.outcomes (noted_outcome contents.outcomes o) (λ who. grow_all kind who contents.sets more grows) (outcomes_noted contents.outcomes o).longer
+      (λ k d within. goes_on contents.sets (with_sets kind more contents.sets) contents.outcomes (noted_outcome contents.outcomes o)
+      (λ who. grow_all kind who contents.sets more grows) (outcomes_noted contents.outcomes o).longer
       (get_or contents.nodes k d) (held.tables k d within))
       new
 
@@ -206,12 +234,14 @@ module _ (contents : Contents) (name : List ℕ) (m : SetMention) (o : OutcomeMe
       → IsMentioned (sets_of_kind kind contents.sets) more (set_number (sets_of_kind kind contents.sets) m) (action_count (sets_of_kind kind contents.sets) m)
       → GoesWith (with_sets kind more contents.sets) (noted_outcome contents.outcomes o) (node_as kind)
   new_goes kind more own n = record {
-    set = λ _. subst (λ table. IsInSet table (node_as kind)) (sym own) (in_set more (node_as kind) n.from_one (let count = n.count in omega (arith, count)) n.here);
+    set = λ _. subst (λ table. IsInSet table (node_as kind)) (sym own) (in_set more (node_as kind) n.from_one (let count = n.count in omega (arith, count))
+        n.here);
     outcome = (outcomes_noted contents.outcomes o).there;
   }
 
   abbrev GoOnTogether : Kind → List SetEntry → Node → Type 0
-  GoOnTogether kind more node = GoTogether (contents.nodes ++ node ∷ []) (contents.names ++ name ∷ []) (with_sets kind more contents.sets) (noted_outcome contents.outcomes o)
+  GoOnTogether kind more node = GoTogether (contents.nodes ++ node ∷ []) (contents.names ++ name ∷ []) (with_sets kind more contents.sets)
+      (noted_outcome contents.outcomes o)
 
   chance_after : is_set_undefined contents.sets.chance m ≡ false → is_set_miscounted contents.sets.chance m ≡ false
       → GoOnTogether movers.Chance (noted_set contents.sets.chance m) (node_as movers.Chance)
@@ -263,7 +293,10 @@ module _ (contents : Contents) (name : List ℕ) (m : SetMention) (o : OutcomeMe
     rules = KeepRules-push contents.nodes leaf held.rules (record { set = refl; children = refl });
     limit = limit leaf;
     named = named leaf;
-    tables = tables movers.Leaf [] leaf (same_table []) (record { set = λ not_leaf. absurd (not_leaf refl); outcome = (outcomes_noted contents.outcomes o).there });
+    tables = tables movers.Leaf [] leaf (same_table []) (record {
+      set = λ not_leaf. absurd (not_leaf refl);
+      outcome = (outcomes_noted contents.outcomes o).there;
+    });
     chance = other_sets movers.Chance contents.sets.chance contents.nodes leaf refl held.chance;
     one = other_sets movers.One contents.sets.one contents.nodes leaf refl held.one;
     two = other_sets movers.Two contents.sets.two contents.nodes leaf refl held.two;
@@ -280,7 +313,8 @@ module _ (contents : Contents) (name : List ℕ) (m : SetMention) (o : OutcomeMe
 
   by_player : (b : Bool) → is_set_undefined (sets_of_kind (cond b movers.One movers.Two) contents.sets) m ≡ false
       → is_set_miscounted (sets_of_kind (cond b movers.One movers.Two) contents.sets) m ≡ false
-      → GoOnTogether (cond b movers.One movers.Two) (noted_set (sets_of_kind (cond b movers.One movers.Two) contents.sets) m) (node_by Personal (cond b movers.One movers.Two))
+      → GoOnTogether (cond b movers.One movers.Two) (noted_set (sets_of_kind (cond b movers.One movers.Two) contents.sets) m)
+      (node_by Personal (cond b movers.One movers.Two))
   by_player true defined counted = one_after defined counted
   by_player false defined counted = two_after defined counted
 

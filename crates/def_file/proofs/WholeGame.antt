@@ -1,5 +1,6 @@
 -- What a game whose tables go with its tree has: the next node fits, and its tables are small.
-use Rattle.std.proofs.Common.{◌≡◌, ◌≢◌, ℕ, zero, suc, ◌+◌, ◌<◌, ◌≤◌, Bool, true, false, List, [], ◌∷◌, ◌++◌, length, get_or, take, None, refl, ap, subst, arith, length-append}
+use Rattle.std.proofs.Common.{◌≡◌, ◌≢◌, ℕ, zero, suc, ◌+◌, ◌<◌, ◌≤◌, Bool, true, false, List, [], ◌∷◌, ◌++◌, length, get_or, take, None, refl, ap, subst, arith}
+use Rattle.std.proofs.Common.{length-append}
 use Rattle.std.proofs.Math.Seq.{get_or-append_seam, take-append_seam, take-length, take-suc}
 use Rattle.def_tree.specs.declared.Kind.{Kind}
 use Rattle.def_tree.specs.declared.Kind.TheVariants as movers
@@ -40,7 +41,8 @@ count_below kind nodes d keep (suc n) within =
     let there : n < length nodes = omega arith in
     let node = get_or nodes n d in
     let before : set_count kind (take n nodes) ≤ n = count_below kind nodes d keep n (omega arith) in
-    let pushed : set_count kind (take n nodes ++ node ∷ []) ≤ n + 1 = count_step kind (take n nodes) node n (is_same_kind kind node.kind) refl (keep n d there) before in
+    let pushed : set_count kind (take n nodes ++ node ∷ []) ≤ n + 1 = count_step kind (take n nodes) node n (is_same_kind kind node.kind) refl (keep n d there)
+    before in
     let more : take (suc n) nodes ≡ take n nodes ++ node ∷ [] = take-suc nodes n d there in
     let same = ap (set_count kind) more in
     omega (arith, pushed, same)

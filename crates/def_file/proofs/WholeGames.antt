@@ -17,7 +17,8 @@ together_from : (done rest : List Record) → HaveNoFault (done ++ rest) → Are
 together_from done [] fine held = subst (λ rs. AreTogether (contents_of rs)) (sym (append-nil done)) held
 together_from done (r ∷ rest) fine held =
     let regrouped : (done ++ r ∷ []) ++ rest ≡ done ++ r ∷ rest = append_assoc done (r ∷ []) rest in
-    let next : AreTogether (contents_of (done ++ r ∷ [])) = subst AreTogether (sym (one_more done r)) (together_with (contents_of done) r held (no_fault_here done r rest fine)) in
+    let next : AreTogether (contents_of (done ++ r ∷ [])) = subst AreTogether (sym (one_more done r))
+    (together_with (contents_of done) r held (no_fault_here done r rest fine)) in
     subst (λ rs. AreTogether (contents_of rs)) regrouped (together_from (done ++ r ∷ []) rest (subst HaveNoFault (sym regrouped) fine) next)
 
 -- the law: entries without a fault make a whole game
@@ -26,5 +27,6 @@ entries_make_whole_game prologue rs fine whole =
     let contents = contents_of rs in
     record {
       tree = tree_of_whole contents.nodes whole;
-      together = subst (λ (nodes : List Node). GoTogether nodes contents.names contents.sets contents.outcomes) (sym (prefix-forest_of contents.nodes)) (together_from [] rs fine nothing_together);
+      together = subst (λ (nodes : List Node). GoTogether nodes contents.names contents.sets contents.outcomes) (sym (prefix-forest_of contents.nodes))
+          (together_from [] rs fine nothing_together);
     }

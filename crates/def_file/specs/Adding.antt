@@ -2,11 +2,13 @@
 --     noted_set table m              the sets with a mention
 --     node_with contents r           the node that an entry is
 --     with_record contents r         the contents with an entry
-use Rattle.std.specs.Prelude.{ℕ, ◌+◌, nat_eq, if◌then◌else◌, List, [], ◌∷◌, ◌++◌, length, unwrap_or, slice_set, slice_index_or, Option, Some, None}
+use Rattle.std.specs.Prelude.{ℕ, ◌+◌, nat_eq, if◌then◌else◌, List, [], ◌∷◌, ◌++◌, length, unwrap_or, slice_set}
+use Rattle.std.specs.Prelude.{slice_index_or, Option, Some, None}
 use Rattle.std.specs.Option.{option_map_or}
 use Rattle.def_fraction.specs.Fraction.{Fraction, zero_fraction}
 use Rattle.def_tree.specs.declared.Node.{Node}
-use Rattle.def_file.specs.Content.{SetMention, OutcomeMention, Record, SetEntry, OutcomeEntry, Contents, sets_of_kind, with_sets}
+use Rattle.def_file.specs.Content.{SetMention, OutcomeMention, Record, SetEntry, OutcomeEntry, Contents, sets_of_kind}
+use Rattle.def_file.specs.Content.{with_sets}
 use Rattle.def_file.specs.Faults.{mover, has_set, set_place_of, outcome_place_of, set_at, outcome_at}
 
 -- the first name that is given is kept
@@ -19,7 +21,8 @@ new_set m = record { number = m.number; name = m.name; actions = unwrap_or m.act
 
 abbrev pub noted_set : List SetEntry → SetMention → List SetEntry
 noted_set table m =
-    option_map_or (λ i. slice_set table i (record (set_at table i) { name = kept_name (set_at table i).name m.name })) (set_place_of m.number table) (table ++ new_set m ∷ [])
+    option_map_or (λ i. slice_set table i (record (set_at table i) { name = kept_name (set_at table i).name m.name }))
+    (set_place_of m.number table) (table ++ new_set m ∷ [])
 
 abbrev pub nth_payoff : List Fraction → ℕ → Fraction
 nth_payoff payoffs i = slice_index_or payoffs i zero_fraction
@@ -36,7 +39,9 @@ new_outcome m = record {
 abbrev pub noted_outcome : List OutcomeEntry → OutcomeMention → List OutcomeEntry
 noted_outcome table m =
     if nat_eq m.number 0 then table
-    else option_map_or (λ i. slice_set table i (record (outcome_at table i) { name = kept_name (outcome_at table i).name m.name })) (outcome_place_of m.number table) (table ++ new_outcome m ∷ [])
+    else option_map_or (λ i. slice_set table i (record (outcome_at table i)
+    { name = kept_name (outcome_at table i).name m.name })) (outcome_place_of m.number table)
+    (table ++ new_outcome m ∷ [])
 
 -- The numbers of a set and an outcome by their tables, which count from 1.
 
@@ -48,7 +53,8 @@ outcome_number table m = if nat_eq m.number 0 then 0 else unwrap_or (outcome_pla
 
 -- how many actions the set has with a mention
 abbrev pub action_count : List SetEntry → SetMention → ℕ
-action_count table m = option_map_or (λ i. length (set_at table i).actions) (set_place_of m.number table) (length (new_set m).actions)
+action_count table m = option_map_or (λ i. length (set_at table i).actions) (set_place_of m.number table)
+    (length (new_set m).actions)
 
 abbrev pub node_with : Contents → Record → Node
 node_with contents r =

@@ -69,7 +69,13 @@ abbrev pub chance_record : SetMention → Record
 chance_record set = record { kind = kinds.Chance; name = []; player = 0; set = set; outcome = no_outcome_mention }
 
 abbrev pub player_record : ℕ → SetMention → Record
-player_record player set = record { kind = kinds.Personal; name = []; player = player; set = set; outcome = no_outcome_mention }
+player_record player set = record {
+  kind = kinds.Personal;
+  name = [];
+  player = player;
+  set = set;
+  outcome = no_outcome_mention;
+}
 
 abbrev pub leaf_record : OutcomeMention → Record
 leaf_record outcome = record { kind = kinds.Leaf; name = []; player = 0; set = no_set_mention; outcome = outcome }

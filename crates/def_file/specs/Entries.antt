@@ -7,7 +7,8 @@
 --     outcome_table rs               the outcomes, in the order of their first mentions
 --     node_of rs r                   the node that an entry is, among all entries
 --     contents_of rs                 the nodes, with their names, sets and outcomes
-use Rattle.std.specs.Prelude.{ℕ, ◌+◌, not, nat_eq, if◌then◌else◌, List, [], ◌∷◌, map, filter, length, unwrap_or, Option, Some, None}
+use Rattle.std.specs.Prelude.{ℕ, ◌+◌, not, nat_eq, if◌then◌else◌, List, [], ◌∷◌, map, filter, length, unwrap_or, Option}
+use Rattle.std.specs.Prelude.{Some, None}
 use Rattle.std.specs.List.{position_or_len}
 use Rattle.def_tree.specs.declared.Kind.{Kind}
 use Rattle.def_tree.specs.declared.Kind.TheVariants.{Chance, One, Two}

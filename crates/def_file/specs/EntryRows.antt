@@ -4,8 +4,10 @@ use Rattle.def_fraction.specs.Fraction.{Fraction, whole_number, zero_fraction, o
 use Rattle.def_tree.specs.declared.Kind.TheVariants as movers
 use Rattle.def_tree.specs.Rules.{node_of_numbers}
 use Rattle.def_file.specs.declared.FileFault.{FileFault}
-use Rattle.def_file.specs.declared.FileFault.TheVariants.{PlayerNumber, SetUndefined, SetMismatch, OutcomeUndefined, OutcomeMismatch, PayoffCount, TooManyNodes, ActionCount}
-use Rattle.def_file.specs.Content.{Action, SetMention, OutcomeMention, Record, Contents, action_with, named_action, set_mention, outcome_mention, chance_record, player_record, leaf_record}
+use Rattle.def_file.specs.declared.FileFault.TheVariants.{PlayerNumber, SetUndefined, SetMismatch, OutcomeUndefined}
+use Rattle.def_file.specs.declared.FileFault.TheVariants.{OutcomeMismatch, PayoffCount, TooManyNodes, ActionCount}
+use Rattle.def_file.specs.Content.{Action, SetMention, OutcomeMention, Record, Contents, action_with, named_action}
+use Rattle.def_file.specs.Content.{set_mention, outcome_mention, chance_record, player_record, leaf_record}
 use Rattle.def_file.specs.Faults.{first_met, entry_faults, record_fault}
 use Rattle.def_file.specs.Entries.{contents_of}
 
@@ -38,16 +40,21 @@ letters = named_action (codes "x") ∷ named_action (codes "y") ∷ []
 
 -- the first four entries
 abbrev begun : List Record
-begun = player_record 1 (set_mention 1 (Some (codes "a")) (Some letters)) ∷ chance_record (set_mention 7 (Some (codes "coin")) (Some coin)) ∷ leaf_saying 1 None (given_payoffs (pos 1) (negsuc 0)) ∷ leaf_saying 0 None None ∷ []
+begun = player_record 1 (set_mention 1 (Some (codes "a")) (Some letters))
+    ∷ chance_record (set_mention 7 (Some (codes "coin")) (Some coin))
+    ∷ leaf_saying 1 None (given_payoffs (pos 1) (negsuc 0)) ∷ leaf_saying 0 None None ∷ []
 
 -- the other three
 abbrev ended : List Record
-ended = chance_record (set_mention 7 (Some (codes "coin")) (Some coin)) ∷ leaf_saying 0 None None ∷ leaf_saying 2 None (given_payoffs (negsuc 0) (pos 1)) ∷ []
+ended = chance_record (set_mention 7 (Some (codes "coin")) (Some coin)) ∷ leaf_saying 0 None None
+    ∷ leaf_saying 2 None (given_payoffs (negsuc 0) (pos 1)) ∷ []
 
 -- the sets are numbered by first appearance: the coin is set 1 of chance, though the file calls it 7
 abbrev coin_contents : Contents
 coin_contents = record {
-  nodes = node_of_numbers movers.One 1 0 2 ∷ node_of_numbers movers.Chance 1 0 2 ∷ node_of_numbers movers.Leaf 0 1 0 ∷ node_of_numbers movers.Leaf 0 0 0 ∷ node_of_numbers movers.Chance 1 0 2 ∷ node_of_numbers movers.Leaf 0 0 0 ∷ node_of_numbers movers.Leaf 0 2 0 ∷ [];
+  nodes = node_of_numbers movers.One 1 0 2 ∷ node_of_numbers movers.Chance 1 0 2 ∷ node_of_numbers movers.Leaf 0 1 0
+      ∷ node_of_numbers movers.Leaf 0 0 0 ∷ node_of_numbers movers.Chance 1 0 2 ∷ node_of_numbers movers.Leaf 0 0 0
+      ∷ node_of_numbers movers.Leaf 0 2 0 ∷ [];
   names = [] ∷ [] ∷ [] ∷ [] ∷ [] ∷ [] ∷ [] ∷ [];
   sets = record {
     chance = record { number = 7; name = Some (codes "coin"); actions = coin } ∷ [];
@@ -74,32 +81,42 @@ three_letters = named_action (codes "a") ∷ named_action (codes "b") ∷ named_
 
 abbrev late : List Record
 late =
-    player_record 1 (set_mention 4 None (Some three_letters)) ∷ player_record 2 (set_mention 9 None (Some (named_action (codes "l") ∷ []))) ∷ leaf_saying 6 None (given_payoffs (pos 1) (negsuc 0)) ∷ player_record 2 (set_mention 3 None (Some (named_action (codes "u") ∷ []))) ∷ leaf_saying 0 None None
+    player_record 1 (set_mention 4 None (Some three_letters))
+    ∷ player_record 2 (set_mention 9 None (Some (named_action (codes "l") ∷ [])))
+    ∷ leaf_saying 6 None (given_payoffs (pos 1) (negsuc 0))
+    ∷ player_record 2 (set_mention 3 None (Some (named_action (codes "u") ∷ []))) ∷ leaf_saying 0 None None
     ∷ player_record 2 (set_mention 9 (Some (codes "late")) None) ∷ leaf_saying 6 (Some (codes "win")) None ∷ []
 
 abbrev late_contents : Contents
 late_contents = record {
-  nodes = node_of_numbers movers.One 1 0 3 ∷ node_of_numbers movers.Two 1 0 1 ∷ node_of_numbers movers.Leaf 0 1 0 ∷ node_of_numbers movers.Two 2 0 1 ∷ node_of_numbers movers.Leaf 0 0 0 ∷ node_of_numbers movers.Two 1 0 1 ∷ node_of_numbers movers.Leaf 0 1 0 ∷ [];
+  nodes = node_of_numbers movers.One 1 0 3 ∷ node_of_numbers movers.Two 1 0 1 ∷ node_of_numbers movers.Leaf 0 1 0
+      ∷ node_of_numbers movers.Two 2 0 1 ∷ node_of_numbers movers.Leaf 0 0 0 ∷ node_of_numbers movers.Two 1 0 1
+      ∷ node_of_numbers movers.Leaf 0 1 0 ∷ [];
   names = [] ∷ [] ∷ [] ∷ [] ∷ [] ∷ [] ∷ [] ∷ [];
   sets = record {
     chance = [];
     one = record { number = 4; name = None; actions = three_letters } ∷ [];
-    two = record { number = 9; name = Some (codes "late"); actions = named_action (codes "l") ∷ [] } ∷ record { number = 3; name = None; actions = named_action (codes "u") ∷ [] } ∷ [];
+    two = record { number = 9; name = Some (codes "late"); actions = named_action (codes "l") ∷ [] }
+        ∷ record { number = 3; name = None; actions = named_action (codes "u") ∷ [] } ∷ [];
   };
-  outcomes = record { number = 6; name = Some (codes "win"); one = whole_number (pos 1); two = whole_number (negsuc 0) } ∷ [];
+  outcomes = record { number = 6; name = Some (codes "win"); one = whole_number (pos 1); two = whole_number (negsuc 0) }
+      ∷ [];
 }
 
 -- Faults, each of a fifth entry behind the first four of the first file, unless it is said.
 
 abbrev heads : Fraction → SetMention
-heads chance = set_mention 7 None (Some (action_with (codes "h") chance ∷ action_with (codes "t") (over (pos 1) 2) ∷ []))
+heads chance = set_mention 7 None (Some (action_with (codes "h") chance ∷ action_with (codes "t") (over (pos 1) 2)
+    ∷ []))
 
 abbrev renamed : SetMention
-renamed = set_mention 7 (Some (codes "coin")) (Some (action_with (codes "h") (over (pos 1) 2) ∷ action_with (codes "tails") (over (pos 1) 2) ∷ []))
+renamed = set_mention 7 (Some (codes "coin")) (Some (action_with (codes "h") (over (pos 1) 2)
+    ∷ action_with (codes "tails") (over (pos 1) 2) ∷ []))
 
 -- the names of player one's actions, with probabilities that no file gives
 abbrev letters_with_chances : SetMention
-letters_with_chances = set_mention 1 (Some (codes "a")) (Some (action_with (codes "x") (over (pos 1) 2) ∷ action_with (codes "y") (over (pos 1) 3) ∷ []))
+letters_with_chances = set_mention 1 (Some (codes "a"))
+    (Some (action_with (codes "x") (over (pos 1) 2) ∷ action_with (codes "y") (over (pos 1) 3) ∷ []))
 
 -- the fault of an entry behind so many nodes, where neither a set nor an outcome is known
 abbrev fault_behind : ℕ → Record → Option FileFault
@@ -119,17 +136,22 @@ pub record EntryRows : Type 0 where
   pub zeros : record_fault (contents_of begun) (leaf_saying 0 None (given_payoffs (pos 0) (pos 0))) ≡ None
   pub no_zeros : record_fault (contents_of begun) (leaf_saying 0 None (Some [])) ≡ Some (OutcomeMismatch 5)
   pub three_payoffs : record_fault (contents_of begun)
-      (leaf_saying 3 None (Some (whole_number (pos 1) ∷ whole_number (negsuc 0) ∷ zero_fraction ∷ []))) ≡ Some (PayoffCount 5)
+      (leaf_saying 3 None (Some (whole_number (pos 1) ∷ whole_number (negsuc 0) ∷ zero_fraction ∷ [])))
+      ≡ Some (PayoffCount 5)
   pub no_payoffs : record_fault (contents_of begun) (leaf_saying 3 None None) ≡ Some (OutcomeUndefined 5)
   pub player : record_fault (contents_of begun) (player_record 3 (set_mention 8 None None)) ≡ Some (PlayerNumber 5)
-  pub no_action : record_fault (contents_of begun) (player_record 1 (set_mention 2 None (Some []))) ≡ Some (ActionCount 5)
-  pub later_empty : record_fault (contents_of begun) (player_record 1 (set_mention 1 None (Some []))) ≡ Some (SetMismatch 5)
+  pub no_action : record_fault (contents_of begun) (player_record 1 (set_mention 2 None (Some [])))
+      ≡ Some (ActionCount 5)
+  pub later_empty : record_fault (contents_of begun) (player_record 1 (set_mention 1 None (Some [])))
+      ≡ Some (SetMismatch 5)
   pub set_of_chance : record_fault (contents_of begun) (chance_record (set_mention 1 None None)) ≡ Some (SetUndefined 5)
   pub set_of_two : record_fault (contents_of begun)
       (player_record 2 (set_mention 1 (Some (codes "a")) None)) ≡ Some (SetUndefined 5)
   pub known_set : record_fault (contents_of begun) (player_record 1 (set_mention 1 None None)) ≡ None
-  pub undefined_before_outcome : record_fault (contents_of begun) (record (player_record 1 (set_mention 2 None None)) { outcome = unpaid }) ≡ Some (SetUndefined 5)
-  pub mismatch_before_outcome : record_fault (contents_of begun) (record (player_record 1 (set_mention 1 (Some (codes "b")) None)) { outcome = unpaid }) ≡ Some (SetMismatch 5)
+  pub undefined_before_outcome : record_fault (contents_of begun)
+      (record (player_record 1 (set_mention 2 None None)) { outcome = unpaid }) ≡ Some (SetUndefined 5)
+  pub mismatch_before_outcome : record_fault (contents_of begun)
+      (record (player_record 1 (set_mention 1 (Some (codes "b")) None)) { outcome = unpaid }) ≡ Some (SetMismatch 5)
   pub more_actions : record_fault (contents_of begun)
       (player_record 1 (set_mention 1 None (Some (letters ++ named_action (codes "z") ∷ [])))) ≡ Some (SetMismatch 5)
   pub fewer_actions : record_fault (contents_of begun)
@@ -147,13 +169,18 @@ pub record EntryRows : Type 0 where
   pub later_three : record_fault (contents_of begun)
       (leaf_saying 1 None (Some (whole_number (pos 1) ∷ whole_number (negsuc 0) ∷ zero_fraction ∷ [])))
       ≡ Some (OutcomeMismatch 5)
-  pub name_at_zero : begun_and (leaf_saying 0 (Some (codes "even")) None) (leaf_saying 0 (Some (codes "odd")) None) ≡ None
-  pub most_actions_fit : fault_behind 0 (player_record 1 (set_mention 1 None (Some (replicate 1024 (named_action []))))) ≡ None
+  pub name_at_zero : begun_and (leaf_saying 0 (Some (codes "even")) None) (leaf_saying 0 (Some (codes "odd")) None)
+      ≡ None
+  pub most_actions_fit : fault_behind 0 (player_record 1 (set_mention 1 None (Some (replicate 1024 (named_action [])))))
+      ≡ None
   pub one_action_more : fault_behind 0 (player_record 1 (set_mention 1 None (Some (replicate 1025 (named_action [])))))
       ≡ Some (ActionCount 1)
   pub last_node : fault_behind 1048575 (leaf_saying 0 None None) ≡ None
   pub node_too_many : fault_behind 1048576 (leaf_saying 0 None None) ≡ Some TooManyNodes
   pub payoffs_before_nodes : fault_behind 1048576 (leaf_saying 3 None (Some [])) ≡ Some (PayoffCount 1048577)
   pub nodes_before_actions : fault_behind 1048576 (player_record 1 (set_mention 2 None (Some []))) ≡ Some TooManyNodes
-  pub actions_at_last_node : fault_behind 1048575 (player_record 1 (set_mention 2 None (Some []))) ≡ Some (ActionCount 1048576)
-  pub payoffs_before_actions : record_fault (contents_of begun) (record (player_record 1 (set_mention 2 None (Some []))) { outcome = outcome_mention 3 None (Some []) }) ≡ Some (PayoffCount 5)
+  pub actions_at_last_node : fault_behind 1048575 (player_record 1 (set_mention 2 None (Some [])))
+      ≡ Some (ActionCount 1048576)
+  pub payoffs_before_actions : record_fault (contents_of begun)
+      (record (player_record 1 (set_mention 2 None (Some []))) { outcome = outcome_mention 3 None (Some []) })
+      ≡ Some (PayoffCount 5)

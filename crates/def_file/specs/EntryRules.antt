@@ -15,7 +15,8 @@ use Rattle.def_tree.specs.Rules.{most_actions, most_nodes}
 use Rattle.def_file.specs.declared.EntryKind.{EntryKind}
 use Rattle.def_file.specs.declared.EntryKind.TheVariants.{Chance, Personal}
 use Rattle.def_file.specs.declared.FileFault.{FileFault}
-use Rattle.def_file.specs.declared.FileFault.TheVariants.{PlayerNumber, SetUndefined, SetMismatch, OutcomeUndefined, OutcomeMismatch, PayoffCount, TooManyNodes, ActionCount}
+use Rattle.def_file.specs.declared.FileFault.TheVariants.{PlayerNumber, SetUndefined, SetMismatch, OutcomeUndefined}
+use Rattle.def_file.specs.declared.FileFault.TheVariants.{OutcomeMismatch, PayoffCount, TooManyNodes, ActionCount}
 use Rattle.def_file.specs.Content.{Action, Record}
 use Rattle.def_file.specs.Faults.{fault_number}
 
@@ -61,7 +62,8 @@ pub record AreSameActions (kind : EntryKind) (kept given : List Action) : Type 0
   pub chances : kind ≡ Chance → AreSameNumbers (map (λ a. a.chance) kept) (map (λ a. a.chance) given)
 
 -- a name is given that isn't the first one given by the entries with the property
-pub record HasOtherName (P : Record → Type 0) (name : Record → Option (List ℕ)) (rs : List Record) (r : Record) : Type 0 where
+pub record HasOtherName (P : Record → Type 0) (name : Record → Option (List ℕ)) (rs : List Record) (r : Record) : Type
+    0 where
   pub kept : List ℕ
   pub given : List ℕ
   pub entry : Record
@@ -125,7 +127,8 @@ HasOtherThanTwo r = (given : List Fraction) × (r.outcome.payoffs ≡ Some given
 
 -- no action, or more than 1,024
 abbrev pub HasNoneOrTooMany : Record → Type 0
-HasNoneOrTooMany r = (given : List Action) × (r.set.actions ≡ Some given) × ((length given ≡ 0) ⊎ (most_actions < length given))
+HasNoneOrTooMany r = (given : List Action) × (r.set.actions ≡ Some given)
+    × ((length given ≡ 0) ⊎ (most_actions < length given))
 
 -- The faults of an entry count its node, from 1. No other fault is an entry's.
 abbrev pub Breaks : List Record → Record → FileFault → Type 0

@@ -5,7 +5,8 @@
 --     entry_faults                   the tests of an entry, in the order of the list
 --     record_fault contents r        the first fault whose test is met
 --     fault_number fault             the number of a fault
-use Rattle.std.specs.Prelude.{ℕ, ◌+◌, Bool, true, false, not, ◌&&◌, ◌||◌, nat_eq, nat_lt, if◌then◌else◌, List, [], ◌∷◌, length, position, is_none, slice_index_or, Option, Some, None}
+use Rattle.std.specs.Prelude.{ℕ, ◌+◌, Bool, true, false, not, ◌&&◌, ◌||◌, nat_eq, nat_lt, if◌then◌else◌, List, [], ◌∷◌}
+use Rattle.std.specs.Prelude.{length, position, is_none, slice_index_or, Option, Some, None}
 use Rattle.std.specs.Option.{option_map_or}
 use Rattle.std.specs.declared.cmp.Ordering.{Ordering}
 use Rattle.std.specs.declared.cmp.Ordering.TheVariants.{Less, Equal, Greater}
@@ -17,8 +18,12 @@ use Rattle.def_tree.specs.Rules.{most_actions, most_nodes}
 use Rattle.def_file.specs.declared.EntryKind.{EntryKind}
 use Rattle.def_file.specs.declared.EntryKind.TheVariants.{Chance, Personal, Leaf}
 use Rattle.def_file.specs.declared.FileFault.{FileFault}
-use Rattle.def_file.specs.declared.FileFault.TheVariants.{TooLong, Syntax, UnexpectedEnd, TrailingText, Number, Players, PlayerNumber, SetUndefined, SetMismatch, OutcomeUndefined, OutcomeMismatch, PayoffCount, TooManyNodes, ActionCount, ChanceNegative, ChanceSum, NotConstantSum, NotRecall, Scale}
-use Rattle.def_file.specs.Content.{Action, SetMention, OutcomeMention, Record, SetEntry, OutcomeEntry, Contents, sets_of_kind}
+use Rattle.def_file.specs.declared.FileFault.TheVariants.{TooLong, Syntax, UnexpectedEnd, TrailingText, Number, Players}
+use Rattle.def_file.specs.declared.FileFault.TheVariants.{PlayerNumber, SetUndefined, SetMismatch, OutcomeUndefined}
+use Rattle.def_file.specs.declared.FileFault.TheVariants.{OutcomeMismatch, PayoffCount, TooManyNodes, ActionCount}
+use Rattle.def_file.specs.declared.FileFault.TheVariants.{ChanceNegative, ChanceSum, NotConstantSum, NotRecall, Scale}
+use Rattle.def_file.specs.Content.{Action, SetMention, OutcomeMention, Record, SetEntry, OutcomeEntry, Contents}
+use Rattle.def_file.specs.Content.{sets_of_kind}
 
 abbrev pub mover_as : EntryKind → ℕ → Kind
 mover_as Chance player = movers.Chance
@@ -105,7 +110,8 @@ is_set_undefined table m = is_none (set_place_of m.number table) && is_none m.ac
 -- a later mention of a set has another name or list
 abbrev pub set_differs : Kind → List SetEntry → SetMention → Bool
 set_differs kind table m =
-    option_map_or (λ i. name_differs (set_at table i).name m.name || actions_differ kind (set_at table i).actions m.actions) (set_place_of m.number table) false
+    option_map_or (λ i. name_differs (set_at table i).name m.name
+    || actions_differ kind (set_at table i).actions m.actions) (set_place_of m.number table) false
 
 -- the first list of a set has no action, or more than 1,024
 abbrev pub has_wrong_count : Option (List Action) → Bool
@@ -117,12 +123,14 @@ is_set_miscounted table m = is_none (set_place_of m.number table) && has_wrong_c
 
 -- Outcome 0 counts as described before, with the payoffs 0 and 0 and no name that is compared.
 abbrev pub is_outcome_undefined : List OutcomeEntry → OutcomeMention → Bool
-is_outcome_undefined table m = not (nat_eq m.number 0) && (is_none (outcome_place_of m.number table) && is_none m.payoffs)
+is_outcome_undefined table m = not (nat_eq m.number 0) && (is_none (outcome_place_of m.number table)
+    && is_none m.payoffs)
 
 abbrev pub outcome_differs : List OutcomeEntry → OutcomeMention → Bool
 outcome_differs table m =
     if nat_eq m.number 0 then payoffs_differ null_outcome m.payoffs
-    else option_map_or (λ i. name_differs (outcome_at table i).name m.name || payoffs_differ (outcome_at table i) m.payoffs) (outcome_place_of m.number table) false
+    else option_map_or (λ i. name_differs (outcome_at table i).name m.name
+    || payoffs_differ (outcome_at table i) m.payoffs) (outcome_place_of m.number table) false
 
 -- the first list of an outcome has other than two payoffs
 abbrev pub has_wrong_payoffs : Option (List Fraction) → Bool
@@ -130,7 +138,8 @@ has_wrong_payoffs (Some given) = not (nat_eq (length given) 2)
 has_wrong_payoffs None = false
 
 abbrev pub is_outcome_miscounted : List OutcomeEntry → OutcomeMention → Bool
-is_outcome_miscounted table m = not (nat_eq m.number 0) && (is_none (outcome_place_of m.number table) && has_wrong_payoffs m.payoffs)
+is_outcome_miscounted table m = not (nat_eq m.number 0)
+    && (is_none (outcome_place_of m.number table) && has_wrong_payoffs m.payoffs)
 
 -- The order.
 
@@ -153,7 +162,8 @@ entry_faults nodes sets outcomes r =
     ∷ (has_set r.kind && is_set_miscounted sets r.set, ActionCount (nodes + 1)) ∷ []
 
 abbrev pub record_faults : Contents → Record → List (Bool × FileFault)
-record_faults contents r = entry_faults (length contents.nodes) (sets_of_kind (mover r) contents.sets) contents.outcomes r
+record_faults contents r = entry_faults (length contents.nodes) (sets_of_kind (mover r) contents.sets) contents.outcomes
+    r
 
 abbrev pub record_fault : Contents → Record → Option FileFault
 record_fault contents r = first_met (record_faults contents r)

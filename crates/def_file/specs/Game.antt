@@ -37,7 +37,8 @@ pub record AreSetsOf (kind : Kind) (nodes : List Node) (table : List SetEntry) :
   pub count : length table ≡ set_count kind nodes
   pub few : All HasFewActions table
 
-pub record GoTogether (nodes : List Node) (names : List (List ℕ)) (sets : SetTables) (outcomes : List OutcomeEntry) : Type 0 where
+pub record GoTogether (nodes : List Node) (names : List (List ℕ)) (sets : SetTables)
+    (outcomes : List OutcomeEntry) : Type 0 where
   pub rules : KeepRules nodes
   pub limit : length nodes ≤ most_nodes
   pub named : length names ≡ length nodes

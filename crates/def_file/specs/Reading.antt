@@ -8,7 +8,9 @@
 --     entries_from              entries one after another, each judged by those before it, until the tree is whole
 --     game_at whole             the whole file
 -- What is read is a value and the offset behind it.
-use Rattle.std.specs.Prelude.{ℕ, zero, suc, ◌+◌, ◌-◌, Bool, true, false, ◌&&◌, ◌||◌, nat_eq, if◌then◌else◌, List, [], ◌∷◌, ◌++◌, codes, length, slice_range, slice_index_or, unwrap_or, Option, Some, None, Result, Ok, Err}
+use Rattle.std.specs.Prelude.{ℕ, zero, suc, ◌+◌, ◌-◌, Bool, true, false, ◌&&◌, ◌||◌, nat_eq, if◌then◌else◌, List, []}
+use Rattle.std.specs.Prelude.{◌∷◌, ◌++◌, codes, length, slice_range, slice_index_or, unwrap_or, Option, Some, None}
+use Rattle.std.specs.Prelude.{Result, Ok, Err}
 use Rattle.std.specs.Cmp.Lexicographic.{pointwise}
 use Rattle.def_file_tokens.specs.declared.Token.{Token}
 use Rattle.def_file_tokens.specs.declared.Token.TheVariants as kinds
@@ -27,8 +29,10 @@ use Rattle.def_file.specs.declared.TheConstants.{MOST_BYTES}
 use Rattle.def_file.specs.declared.EntryKind.{EntryKind}
 use Rattle.def_file.specs.declared.EntryKind.TheVariants.{Chance, Personal, Leaf}
 use Rattle.def_file.specs.declared.FileFault.{FileFault}
-use Rattle.def_file.specs.declared.FileFault.TheVariants.{Syntax, UnexpectedEnd, TrailingText, Number, Players, TooManyNodes}
-use Rattle.def_file.specs.Content.{Prologue, Action, SetMention, OutcomeMention, Record, Contents, GameFile, no_set_mention, no_contents, game_with}
+use Rattle.def_file.specs.declared.FileFault.TheVariants.{Syntax, UnexpectedEnd, TrailingText, Number, Players}
+use Rattle.def_file.specs.declared.FileFault.TheVariants.{TooManyNodes}
+use Rattle.def_file.specs.Content.{Prologue, Action, SetMention, OutcomeMention, Record, Contents, GameFile}
+use Rattle.def_file.specs.Content.{no_set_mention, no_contents, game_with}
 use Rattle.def_file.specs.Faults.{record_fault}
 use Rattle.def_file.specs.Adding.{with_record}
 
@@ -68,7 +72,8 @@ is_numbers whole token = is_exact kinds.Word (codes "R") whole token || is_exact
 
 abbrev pub begins_entry : List ℕ → Lexeme → Bool
 begins_entry whole token =
-    is_exact kinds.Word (codes "c") whole token || (is_exact kinds.Word (codes "p") whole token || is_exact kinds.Word (codes "t") whole token)
+    is_exact kinds.Word (codes "c") whole token || (is_exact kinds.Word (codes "p") whole token
+    || is_exact kinds.Word (codes "t") whole token)
 
 -- A token that can't be taken: at the end, the end; else the token itself.
 abbrev pub unfit : Lexeme → FileFault
@@ -127,7 +132,8 @@ number_or_fault token (Ok n) = Ok (n, token.end)
 number_or_fault token (Err fault) = Err (Number token.start fault)
 
 abbrev pub number_at : {A : Type 0} → (List ℕ → Result A NumberFault) → List ℕ → ℕ → Result (A × ℕ) FileFault
-number_at read whole at = token_where (is_token kinds.Number whole) whole at >>= λ token. number_or_fault token (read (bytes_at whole token))
+number_at read whole at = token_where (is_token kinds.Number whole) whole at >>= λ token. number_or_fault token
+    (read (bytes_at whole token))
 
 unfoldable pub literal_at : List ℕ → ℕ → Result (Fraction × ℕ) FileFault
 literal_at whole at = number_at read_as_literal whole at
@@ -184,7 +190,8 @@ actions_at kind whole at =
 abbrev pub comma_at : List Fraction → List ℕ → ℕ → Result ℕ FileFault
 comma_at [] whole at = Ok at
 comma_at (_ ∷ _) whole at =
-    if next_is comma_byte whole at then (token_where (is_token kinds.Comma whole) whole at >>= λ token. Ok token.end) else Ok at
+    if next_is comma_byte whole at then (token_where (is_token kinds.Comma whole) whole at >>= λ token. Ok token.end)
+    else Ok at
 
 unfoldable pub payoff_at : List Fraction → List ℕ → ℕ → Result (Fraction × ℕ) FileFault
 payoff_at done whole at = comma_at done whole at >>= λ start. literal_at whole start
@@ -284,7 +291,15 @@ unfoldable pub behind_head : List ℕ → PrologueHead × ℕ → Result (Prolog
 behind_head whole head = do
   behind ← checked_names head.0.1 head.1
   comment ← name_at whole behind
-  Ok (record { title = head.0.0; one = nth_name head.0.1 0; two = nth_name head.0.1 1; comment = unwrap_or comment.0 [] }, comment.1)
+  Ok (
+    record {
+      title = head.0.0;
+      one = nth_name head.0.1 0;
+      two = nth_name head.0.1 1;
+      comment = unwrap_or comment.0 [];
+    },
+    comment.1,
+  )
 
 unfoldable pub prologue_at : List ℕ → ℕ → Result (Prologue × ℕ) FileFault
 prologue_at whole at = head_at whole at >>= behind_head whole

@@ -58,7 +58,9 @@ entries_once whole at (r ∷ rs) (t ∷ ts) ss us are others a b =
 pub one_reading : (bytes : List ℕ) (p q : Prologue) (rs ts : List Record) → IsFile bytes p rs → IsFile bytes q ts
     → (p ≡ q) × (rs ≡ ts)
 one_reading bytes p q rs ts f g =
-    let x = prologue_taken bytes 0 p (map spelled f.pieces) f.behind f.prologue (clear_entries rs f.behind f.entries) (ahead_pieces bytes f.pieces f.space f.in_turn f.spelling) in
-    let y = prologue_taken bytes 0 q (map spelled g.pieces) g.behind g.prologue (clear_entries ts g.behind g.entries) (ahead_pieces bytes g.pieces g.space g.in_turn g.spelling) in
+    let x = prologue_taken bytes 0 p (map spelled f.pieces) f.behind f.prologue (clear_entries rs f.behind f.entries)
+    (ahead_pieces bytes f.pieces f.space f.in_turn f.spelling) in
+    let y = prologue_taken bytes 0 q (map spelled g.pieces) g.behind g.prologue (clear_entries ts g.behind g.entries)
+    (ahead_pieces bytes g.pieces g.space g.in_turn g.spelling) in
     let same = read_once (prologue_at bytes 0) p q x.mid y.mid x.ok y.ok in
     (same.0, entries_once bytes y.mid rs ts f.behind g.behind f.entries g.entries (subst (λ n. Ahead bytes n f.behind) same.1 x.ahead) y.ahead)

@@ -1,5 +1,6 @@
 -- What is in the form of an entry and of the prologue is read.
-use Rattle.std.proofs.Common.{◌≡◌, ℕ, zero, suc, ◌≤◌, Bool, true, false, ◌&&◌, ◌||◌, List, [], ◌∷◌, ◌++◌, length, Ok, sym, refl, ap, ◌∙◌, subst, arith, ⊎_elim, append_assoc, append-nil}
+use Rattle.std.proofs.Common.{◌≡◌, ℕ, zero, suc, ◌≤◌, Bool, true, false, ◌&&◌, ◌||◌, List, [], ◌∷◌, ◌++◌, length, Ok, sym, refl, ap, ◌∙◌, subst, arith, ⊎_elim}
+use Rattle.std.proofs.Common.{append_assoc, append-nil}
 use Rattle.std.specs.Prelude.{codes, nat_eq}
 use Rattle.std.specs.Cmp.Lexicographic.{pointwise}
 use Rattle.def_file_tokens.specs.declared.Token.TheVariants as kinds
@@ -7,11 +8,13 @@ use Rattle.def_file_tokens.specs.declared.Lexeme.{Lexeme}
 use Rattle.def_file.specs.declared.EntryKind.{EntryKind}
 use Rattle.def_file.specs.declared.EntryKind.TheVariants.{Chance, Personal, Leaf}
 use Rattle.def_file.specs.Content.{Prologue, OutcomeMention, Record, no_set_mention}
-use Rattle.def_file.specs.Reading.{is_kind, is_exact, is_numbers, begins_entry, token_where, next_is, mark, open_byte, close_byte, chance_entry_at, personal_entry_at, terminal_entry_at, entry_at, names_from, head_at, behind_head, prologue_at}
+use Rattle.def_file.specs.Reading.{is_kind, is_exact, is_numbers, begins_entry, token_where, next_is, mark, open_byte, close_byte, chance_entry_at}
+use Rattle.def_file.specs.Reading.{personal_entry_at, terminal_entry_at, entry_at, names_from, head_at, behind_head, prologue_at}
 use Rattle.def_file_form.specs.Form.{Spelled, word, number, open_brace, IsOutcome, IsEntryAs, IsEntry, AreEntries, AreNames, IsPrologue}
 use Rattle.def_file_form.proofs.TokenByToken.{StepSpelled}
 use Rattle.def_file_form.proofs.TokensAhead.{Ahead, ReadsValue, not_first, not_end, by_spelling, take_exact, take_kind, behind_step, ahead_length}
-use Rattle.def_file_form.proofs.CompleteParts.{text_taken, text_first, text_length, name_taken, whole_taken, close_taken, close_first, IsClear, clear_number, set_mention_taken, outcome_mention_taken}
+use Rattle.def_file_form.proofs.CompleteParts.{text_taken, text_first, text_length, name_taken, whole_taken, close_taken, close_first, IsClear, clear_number}
+use Rattle.def_file_form.proofs.CompleteParts.{set_mention_taken, outcome_mention_taken}
 
 clear_outcome : (m : OutcomeMention) (tokens rest : List Spelled) → IsOutcome m tokens rest → IsClear tokens
 clear_outcome m tokens rest is = subst IsClear (sym is.number.spelling) (clear_number is.number.digits is.numbered)
@@ -19,7 +22,10 @@ clear_outcome m tokens rest is = subst IsClear (sym is.number.spelling) (clear_n
 -- an entry's word
 clear_word : (b : ℕ) (bs : List ℕ) (rest : List Spelled) → nat_eq b 34 ≡ false → nat_eq b 123 ≡ false
     → IsClear (word (b ∷ bs) ∷ rest)
-clear_word b bs rest no_text no_brace = record { no_text = not_first mark b (word (b ∷ bs)) bs rest refl no_text; no_brace = not_first open_byte b (word (b ∷ bs)) bs rest refl no_brace }
+clear_word b bs rest no_text no_brace = record {
+  no_text = not_first mark b (word (b ∷ bs)) bs rest refl no_text;
+  no_brace = not_first open_byte b (word (b ∷ bs)) bs rest refl no_brace;
+}
 
 clear_entry : (kind : EntryKind) (r : Record) (tokens rest : List Spelled) → IsEntryAs kind r tokens rest
     → IsClear tokens
@@ -39,7 +45,8 @@ take_head : (bytes : List ℕ) (whole : List ℕ) (at : ℕ) (l : Lexeme)
     → (pointwise nat_eq bytes (codes "c") || (pointwise nat_eq bytes (codes "p") || pointwise nat_eq bytes (codes "t")))
     ≡ true
     → StepSpelled whole at l (word bytes) → token_where (begins_entry whole) whole at ≡ Ok l
-take_head bytes whole at l passes step = by_spelling (λ s. is_word_token (codes "c") s || (is_word_token (codes "p") s || is_word_token (codes "t") s)) whole at l (word bytes) step passes
+take_head bytes whole at l passes step = by_spelling (λ s. is_word_token (codes "c") s || (is_word_token (codes "p") s || is_word_token (codes "t") s)) whole at
+    l (word bytes) step passes
 
 entry_as_taken : (kind : EntryKind) (whole : List ℕ) (at : ℕ) (r : Record) (tokens rest : List Spelled) → r.kind ≡ kind
     → IsEntryAs kind r tokens rest → IsClear rest → Ahead whole at tokens → ReadsValue whole (entry_at whole at) r rest
@@ -69,7 +76,11 @@ entry_as_taken Personal whole at r tokens rest kind is clear ahead =
     let outcome = outcome_mention_taken whole set.mid r.outcome is.placed rest is.outcome clear set.ahead in
     let made : Record = record { kind = Personal; name = r.name; player = r.player; set = r.set; outcome = r.outcome } in
     let same : made ≡ r = (λ i. record { kind = sym kind i; name = r.name; player = r.player; set = r.set; outcome = r.outcome }) in
-    record { mid = outcome.mid; ok = rw (found, as_c, as_p, name.ok, player.ok, set.ok, outcome.ok) (ap (λ x. Ok (x, outcome.mid)) same); ahead = outcome.ahead }
+    record {
+      mid = outcome.mid;
+      ok = rw (found, as_c, as_p, name.ok, player.ok, set.ok, outcome.ok) (ap (λ x. Ok (x, outcome.mid)) same);
+      ahead = outcome.ahead;
+    }
 entry_as_taken Leaf whole at r tokens rest kind is clear ahead =
     let a : Ahead whole at (word (codes "t") ∷ is.headed) = subst (Ahead whole at) is.head ahead in
     let l : Lexeme = a.next.0 in
@@ -128,10 +139,12 @@ prologue_taken whole at p tokens rest is clear ahead =
     let l4 : Lexeme = a4.next.0 in
     let e4 = take_kind whole title.mid l4 kinds.Open _ refl a4.next.1 in
     let inner = behind_step whole title.mid open_brace h.opened a4 in
-    let names = names_taken (length whole) [] (p.one ∷ p.two ∷ []) whole l4.end h.opened is.behind h.name_texts (ahead_length whole l4.end h.opened inner) inner in
+    let names = names_taken (length whole) [] (p.one ∷ p.two ∷ []) whole l4.end h.opened is.behind h.name_texts (ahead_length whole l4.end h.opened inner)
+    inner in
     let comment = name_taken whole names.mid is.comment is.behind rest is.remark clear.no_text names.ahead in
     record {
       mid = comment.mid;
-      ok = rw (e0, e1, e2, title.ok, e4, names.ok, comment.ok) (ap (λ c. Ok (record { title = p.title; one = p.one; two = p.two; comment = c }, comment.mid)) (sym is.text));
+      ok = rw (e0, e1, e2, title.ok, e4, names.ok, comment.ok) (ap (λ c. Ok (record { title = p.title; one = p.one; two = p.two; comment = c }, comment.mid))
+          (sym is.text));
       ahead = comment.ahead;
     }

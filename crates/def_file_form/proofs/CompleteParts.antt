@@ -1,5 +1,6 @@
 -- What is in the form is read: each reading takes its tokens.
-use Rattle.std.proofs.Common.{◌≡◌, ℕ, zero, suc, ◌<◌, ◌≤◌, true, false, eqb, List, [], ◌∷◌, ◌++◌, length, Option, Some, None, Result, Ok, sym, refl, ap, ◌∙◌, subst, arith, ⊎_elim, append_assoc, append-nil}
+use Rattle.std.proofs.Common.{◌≡◌, ℕ, zero, suc, ◌<◌, ◌≤◌, true, false, eqb, List, [], ◌∷◌, ◌++◌, length, Option, Some, None, Result, Ok, sym, refl, ap, ◌∙◌}
+use Rattle.std.proofs.Common.{subst, arith, ⊎_elim, append_assoc, append-nil}
 use Rattle.std.proofs.lemmas.Bool.{le-leb}
 use Rattle.def_file_tokens.specs.declared.Token.TheVariants as kinds
 use Rattle.def_file_tokens.specs.declared.Lexeme.{Lexeme}
@@ -13,11 +14,15 @@ use Rattle.def_fraction.proofs.JudgeLemmas.{read_as_literal-judged}
 use Rattle.def_file.specs.declared.EntryKind.{EntryKind}
 use Rattle.def_file.specs.declared.EntryKind.TheVariants.{Chance, Personal, Leaf}
 use Rattle.def_file.specs.Content.{Action, SetMention, OutcomeMention}
-use Rattle.def_file.specs.Reading.{bytes_at, next_is, mark, open_byte, close_byte, comma_byte, token_text, text_at, name_at, number_at, literal_at, whole_at, from_one, read_as_set, set_number_at, chance_at, action_at, close_at, actions_from, actions_at, payoff_at, payoffs_from, payoffs_at, set_mention_at, outcome_mention_at}
-use Rattle.def_file_form.specs.Form.{Spelled, number, text, open_brace, close_brace, comma, IsText, IsName, IsWholeNumber, IsFraction, IsChance, AreActionsUpTo, IsActionList, IsPayoffList, IsSet, IsOutcome}
+use Rattle.def_file.specs.Reading.{bytes_at, next_is, mark, open_byte, close_byte, comma_byte, token_text, text_at, name_at, number_at, literal_at, whole_at}
+use Rattle.def_file.specs.Reading.{from_one, read_as_set, set_number_at, chance_at, action_at, close_at, actions_from, actions_at, payoff_at, payoffs_from}
+use Rattle.def_file.specs.Reading.{payoffs_at, set_mention_at, outcome_mention_at}
+use Rattle.def_file_form.specs.Form.{Spelled, number, text, open_brace, close_brace, comma, IsText, IsName, IsWholeNumber, IsFraction, IsChance, AreActionsUpTo}
+use Rattle.def_file_form.specs.Form.{IsActionList, IsPayoffList, IsSet, IsOutcome}
 use Rattle.def_file_form.proofs.TokenByToken.{StepSpelled, Then, IsOne}
 use Rattle.def_file_form.proofs.SoundParts.{IsAction, IsPayoff, ArePayoffsBehind}
-use Rattle.def_file_form.proofs.TokensAhead.{Ahead, ReadsValue, NotNextByte, not_number, not_first, next_is_step, is_first, take_kind, behind_step, ahead_length}
+use Rattle.def_file_form.proofs.TokensAhead.{Ahead, ReadsValue, NotNextByte, not_number, not_first, next_is_step, is_first, take_kind, behind_step}
+use Rattle.def_file_form.proofs.TokensAhead.{ahead_length}
 
 -- what a text token stands for
 text_is : (whole : List ℕ) (at : ℕ) (l : Lexeme) (inside : List ℕ) → StepSpelled whole at l (text inside)
@@ -76,7 +81,8 @@ number_taken as_read whole at bytes v tokens rest is ok ahead =
 pub literal_taken : (whole : List ℕ) (at : ℕ) (v : Fraction) (tokens rest : List Spelled) → IsFraction v tokens rest
     → Ahead whole at tokens → ReadsValue whole (literal_at whole at) v rest
 unfolding literal_at
-literal_taken whole at v tokens rest is ahead = number_taken read_as_literal whole at is.bytes v tokens rest is.spelling (((read_as_literal-judged is.bytes).value v).1 is.literal) ahead
+literal_taken whole at v tokens rest is ahead = number_taken read_as_literal whole at is.bytes v tokens rest is.spelling
+    (((read_as_literal-judged is.bytes).value v).1 is.literal) ahead
 
 is_whole : (n : ℕ) (tokens rest : List Spelled) → (is : IsWholeNumber n tokens rest) → read_as_whole is.digits ≡ Ok n
 unfolding read_as_whole
@@ -102,7 +108,8 @@ is_set_number n tokens rest is some = ap from_one (is_whole n tokens rest is) �
 pub set_number_taken : (whole : List ℕ) (at v : ℕ) (tokens rest : List Spelled) → IsWholeNumber v tokens rest → 1 ≤ v
     → Ahead whole at tokens → ReadsValue whole (set_number_at whole at) v rest
 unfolding set_number_at
-set_number_taken whole at v tokens rest is some ahead = number_taken read_as_set whole at is.digits v tokens rest is.spelling (is_set_number v tokens rest is some) ahead
+set_number_taken whole at v tokens rest is some ahead = number_taken read_as_set whole at is.digits v tokens rest is.spelling
+    (is_set_number v tokens rest is some) ahead
 
 pub chance_taken : (kind : EntryKind) (whole : List ℕ) (at : ℕ) (v : Fraction) (tokens rest : List Spelled)
     → IsChance kind v tokens rest → Ahead whole at tokens → ReadsValue whole (chance_at kind whole at) v rest
@@ -209,7 +216,8 @@ payoff_taken (d ∷ ds) whole at v tokens rest is ahead =
 -- a payoff begins with no brace
 payoff_first : (done : List Fraction) (whole : List ℕ) (at : ℕ) (v : Fraction) (tokens rest : List Spelled)
     → IsPayoff done v tokens rest → Ahead whole at tokens → next_is close_byte whole at ≡ false
-payoff_first [] whole at v tokens rest is ahead = (not_number close_byte refl is.2.bytes rest).here whole at (subst (Ahead whole at) (is.1 ∙ is.2.spelling) ahead)
+payoff_first [] whole at v tokens rest is ahead = (not_number close_byte refl is.2.bytes rest).here whole at
+    (subst (Ahead whole at) (is.1 ∙ is.2.spelling) ahead)
 payoff_first (d ∷ ds) whole at v tokens rest is ahead =
     ⊎_elim
     (λ same. (not_number close_byte refl is.2.bytes rest).here whole at (subst (Ahead whole at) (same ∙ is.2.spelling) ahead))

@@ -1,5 +1,6 @@
 -- Entries one after another, with what is known after those before.
-use Rattle.std.proofs.Common.{◌≡◌, ℕ, zero, suc, ◌+◌, ◌-◌, ◌<◌, ◌≤◌, Bool, true, false, cond, List, [], ◌∷◌, ◌++◌, length, Option, Some, None, Ok, sym, refl, ap, ◌∙◌, subst, arith, eq-eqb, append_assoc, append-nil}
+use Rattle.std.proofs.Common.{◌≡◌, ℕ, zero, suc, ◌+◌, ◌-◌, ◌<◌, ◌≤◌, Bool, true, false, cond, List, [], ◌∷◌, ◌++◌, length, Option, Some, None, Ok, sym, refl}
+use Rattle.std.proofs.Common.{ap, ◌∙◌, subst, arith, eq-eqb, append_assoc, append-nil}
 use Rattle.std.specs.Prelude.{nat_eq}
 use Rattle.std.proofs.lemmas.Bool.{eqb-true, eqb-false, ne_eqb}
 use Rattle.def_tree.specs.declared.Node.{Node}
@@ -33,7 +34,8 @@ nodes_behind rs (r ∷ more) =
     let later = nodes_behind (rs ++ r ∷ []) more in
     let node = node_with (contents_of rs) r in (
       node ∷ later.0,
-      ap (λ l. (contents_of l).nodes) (sym (append_assoc rs (r ∷ []) more)) ∙ later.1 ∙ ap (λ ns. ns ++ later.0) (nodes_more rs r) ∙ append_assoc (contents_of rs).nodes (node ∷ []) later.0,
+      ap (λ l. (contents_of l).nodes) (sym (append_assoc rs (r ∷ []) more)) ∙ later.1 ∙ ap (λ ns. ns ++ later.0) (nodes_more rs r)
+          ∙ append_assoc (contents_of rs).nodes (node ∷ []) later.0,
     )
 
 -- a node comes only where one is wanted
@@ -48,7 +50,8 @@ entry_wanted rs r more begins =
     let later = nodes_behind (rs ++ r ∷ []) more in
     let node = node_with (contents_of rs) r in
     let split : (contents_of (rs ++ r ∷ more)).nodes ≡ (contents_of rs).nodes ++ node ∷ later.0 =
-    ap (λ l. (contents_of l).nodes) (sym (append_assoc rs (r ∷ []) more)) ∙ later.1 ∙ ap (λ ns. ns ++ later.0) (nodes_more rs r) ∙ append_assoc (contents_of rs).nodes (node ∷ []) later.0 in
+    ap (λ l. (contents_of l).nodes) (sym (append_assoc rs (r ∷ []) more)) ∙ later.1 ∙ ap (λ ns. ns ++ later.0) (nodes_more rs r)
+    ∙ append_assoc (contents_of rs).nodes (node ∷ []) later.0 in
     Begins-wanted 1 (contents_of rs).nodes node later.0 (subst (Begins 1) split begins)
 
 -- Reading.
@@ -96,7 +99,8 @@ pub entries_read : (left : ℕ) (done : List Record) (contents : Contents) → c
 unfolding entries_from
 entries_read zero done contents known none begins whole at within read e = absurd cc
 entries_read (suc left) done contents known none begins whole at within read e =
-    chosen (nat_eq (wanted 1 contents.nodes) 0) refl e (λ entry next known none begins within e. entries_read left (done ++ entry.0 ∷ []) next known none begins whole entry.1 within read e)
+    chosen (nat_eq (wanted 1 contents.nodes) 0) refl e (λ entry next known none begins within e. entries_read left (done ++ entry.0 ∷ []) next known none begins
+    whole entry.1 within read e)
   where
     chosen : (b : Bool) → nat_eq (wanted 1 contents.nodes) 0 ≡ b
         → cond b (Ok (contents, at)) (entry_at whole at >>= λ entry. judged contents entry.0 >>= λ next. entries_from left next whole entry.1) ≡ Ok read
@@ -122,7 +126,8 @@ entries_read (suc left) done contents known none begins whole at within read e =
         let j = judged_ok contents r next e1 in
         let some : 0 < wanted 1 contents.nodes = omega (arith, eqb-false _ 0 is) in
         let grown = Begins-append 1 contents.nodes (node_with contents r ∷ []) begins (some, tt) in
-        let later = again entry next (j.1 ∙ ap (λ c. with_record c r) known ∙ sym (one_more done r)) (no_fault_more done r none (ap (λ c. record_fault c r) (sym known) ∙ j.0))
+        let later = again entry next (j.1 ∙ ap (λ c. with_record c r) known ∙ sym (one_more done r))
+        (no_fault_more done r none (ap (λ c. record_fault c r) (sym known) ∙ j.0))
         (subst (λ (c : Contents). Begins 1 c.nodes) (sym j.1) grown) here.within e in
         let regrouped : done ++ r ∷ [] ++ later.more ≡ done ++ r ∷ later.more = append_assoc done (r ∷ []) later.more in
         record {
@@ -146,9 +151,12 @@ entries_taken (suc left) done [] contents known none is_whole fuel whole at toke
     record { mid = at; ok = rw ends (ap (λ c. Ok (c, at)) same); ahead = subst (Ahead whole at) are ahead }
 entries_taken (suc left) done (r ∷ more) contents known none is_whole fuel whole at tokens are ahead =
     let some = entry_wanted done r more is_whole.begins in
-    let yet : nat_eq (wanted 1 contents.nodes) 0 ≡ false = ne_eqb _ 0 (λ zero_wanted. absurd (omega (arith, some, ap (λ (c : Contents). wanted 1 c.nodes) known, zero_wanted))) in
+    let yet : nat_eq (wanted 1 contents.nodes) 0 ≡ false = ne_eqb _ 0 (λ zero_wanted. absurd
+    (omega (arith, some, ap (λ (c : Contents). wanted 1 c.nodes) known, zero_wanted))) in
     let here = entry_taken whole at r tokens are.0 are.1 (clear_entries more are.0 are.2) ahead in
     let judge = ok_judged contents r (ap (λ c. record_fault c r) known ∙ no_fault_here done r more none) in
     let regrouped : done ++ r ∷ [] ++ more ≡ done ++ r ∷ more = append_assoc done (r ∷ []) more in
-    let later = entries_taken left (done ++ r ∷ []) more (with_record contents r) (ap (λ c. with_record c r) known ∙ sym (one_more done r)) (subst HaveNoFault (sym regrouped) none) (subst (λ rs. IsWhole (contents_of rs).nodes) (sym regrouped) is_whole) (omega (arith, fuel)) whole here.mid are.0 are.2 here.ahead in
+    let later = entries_taken left (done ++ r ∷ []) more (with_record contents r) (ap (λ c. with_record c r) known ∙ sym (one_more done r))
+    (subst HaveNoFault (sym regrouped) none) (subst (λ rs. IsWhole (contents_of rs).nodes) (sym regrouped) is_whole) (omega (arith, fuel)) whole here.mid
+    are.0 are.2 here.ahead in
     record { mid = later.mid; ok = rw (yet, here.ok, judge) (later.ok ∙ ap (λ rs. Ok (contents_of rs, later.mid)) regrouped); ahead = later.ahead }

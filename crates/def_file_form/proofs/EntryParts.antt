@@ -1,5 +1,6 @@
 -- Entries.
-use Rattle.std.proofs.Common.{◌≡◌, ◌≢◌, ℕ, ◌≤◌, Bool, true, false, cond, ◌||◌, List, [], ◌∷◌, length, Option, Some, None, Result, sym, refl, ap, ◌∙◌, subst, arith}
+use Rattle.std.proofs.Common.{◌≡◌, ◌≢◌, ℕ, ◌≤◌, Bool, true, false, cond, ◌||◌, List, [], ◌∷◌, length, Option, Some, None, Result, sym, refl, ap, ◌∙◌, subst}
+use Rattle.std.proofs.Common.{arith}
 use Rattle.std.specs.Prelude.{codes}
 use Rattle.def_file_tokens.specs.declared.Token.TheVariants as kinds
 use Rattle.def_file_tokens.specs.declared.Lexeme.{Lexeme}
@@ -7,8 +8,10 @@ use Rattle.def_file.specs.declared.FileFault.{FileFault}
 use Rattle.def_file.specs.declared.EntryKind.{EntryKind}
 use Rattle.def_file.specs.declared.EntryKind.TheVariants.{Chance, Personal, Leaf}
 use Rattle.def_file.specs.Content.{Record, no_set_mention}
-use Rattle.def_file.specs.Reading.{is_exact, text_at, name_at, whole_at, set_number_at, actions_at, payoffs_at, set_mention_at, outcome_mention_at, chance_entry_at, personal_entry_at, terminal_entry_at, entry_behind, entry_at}
-use Rattle.def_file_form.specs.Form.{Spelled, word, number, open_brace, IsText, IsName, IsWholeNumber, IsActionList, IsPayoffList, IsSet, IsOutcome, IsChanceEntry, IsPersonalEntry, IsTerminalEntry, IsEntryAs, IsEntry, spelled_at}
+use Rattle.def_file.specs.Reading.{is_exact, text_at, name_at, whole_at, set_number_at, actions_at, payoffs_at, set_mention_at, outcome_mention_at}
+use Rattle.def_file.specs.Reading.{chance_entry_at, personal_entry_at, terminal_entry_at, entry_behind, entry_at}
+use Rattle.def_file_form.specs.Form.{Spelled, word, number, open_brace, IsText, IsName, IsWholeNumber, IsActionList, IsPayoffList, IsSet, IsOutcome}
+use Rattle.def_file_form.specs.Form.{IsChanceEntry, IsPersonalEntry, IsTerminalEntry, IsEntryAs, IsEntry, spelled_at}
 use Rattle.def_file_form.proofs.TokenByToken.{exact_here}
 use Rattle.def_file_form.proofs.Languages.{Alike, After, NextIs}
 use Rattle.def_file_form.proofs.SuccessiveReadings.{HasWord, Goes, goes_then, goes_with, goes_alike, goes_less, FirstTaken, IsTest, BeginsPassing, goes_token}
@@ -45,8 +48,19 @@ set_alike kind T = record {
   to = λ ss l. let is = l.2 in (l.0.number, is.numbered, (is.number, is.from_one), (l.0.name, is.named, is.name, (l.0.actions, l.1, is.actions, l.3)));
   back = λ ss l.
       let a = l.3 in
-      let b = a.3 in
-      (record { number = l.0; name = a.0; actions = b.0 }, b.1, record { numbered = l.1; named = a.1; number = l.2.0; from_one = l.2.1; name = a.2; actions = b.2 }, b.3);
+      let b = a.3 in (
+        record { number = l.0; name = a.0; actions = b.0 },
+        b.1,
+        record {
+          numbered = l.1;
+          named = a.1;
+          number = l.2.0;
+          from_one = l.2.1;
+          name = a.2;
+          actions = b.2;
+        },
+        b.3,
+      );
 }
 
 set_goes : (kind : EntryKind) (whole : List ℕ) (at : ℕ) → at ≤ length whole
@@ -54,13 +68,17 @@ set_goes : (kind : EntryKind) (whole : List ℕ) (at : ℕ) → at ≤ length wh
 unfolding set_mention_at
 set_goes kind whole at within =
     goes_alike 1 MayFollow MayFollow (SetIn kind) (Part (IsSet kind)) whole at _ (λ T f. f) (λ T f. set_alike kind T)
-    (goes_then 1 HasWord MayFollow (Part IsSetNumber) (λ T. Part IsName (Part (IsActionList kind) T)) whole at (set_number_at whole at) _ (set_number_goes whole at within)
+    (goes_then 1 HasWord MayFollow (Part IsSetNumber) (λ T. Part IsName (Part (IsActionList kind) T)) whole at (set_number_at whole at) _
+    (set_number_goes whole at within)
     (λ T f. let w = (actions_follow kind T f).word in (w.0, (None, w.0, refl, w.1)))
     (λ number e inner grown.
-    goes_then 0 (NoFirst kinds.Text) MayFollow (Part IsName) (Part (IsActionList kind)) whole number.1 (name_at whole number.1) _ (name_goes whole number.1 inner) (actions_follow kind)
+    goes_then 0 (NoFirst kinds.Text) MayFollow (Part IsName) (Part (IsActionList kind)) whole number.1 (name_at whole number.1) _
+    (name_goes whole number.1 inner) (actions_follow kind)
     (λ name e inner grown.
-    goes_alike 0 (NoFirst kinds.Open) MayFollow (Part (IsActionList kind)) (Part (IsActionList kind)) whole name.1 _ (λ T f. record { word = f.word; apart = f.no_open }) (λ T f. record { to = λ ss l. l; back = λ ss l. l })
-    (goes_with 0 (NoFirst kinds.Open) (Part (IsActionList kind)) whole name.1 (actions_at kind whole name.1) (λ actions. record { number = number.0; name = name.0; actions = actions.0 }) (action_list_goes kind whole name.1 inner)))))
+    goes_alike 0 (NoFirst kinds.Open) MayFollow (Part (IsActionList kind)) (Part (IsActionList kind)) whole name.1 _
+    (λ T f. record { word = f.word; apart = f.no_open }) (λ T f. record { to = λ ss l. l; back = λ ss l. l })
+    (goes_with 0 (NoFirst kinds.Open) (Part (IsActionList kind)) whole name.1 (actions_at kind whole name.1)
+    (λ actions. record { number = number.0; name = name.0; actions = actions.0 }) (action_list_goes kind whole name.1 inner)))))
 
 -- Outcomes.
 
@@ -94,12 +112,16 @@ outcome_goes : (whole : List ℕ) (at : ℕ) → at ≤ length whole
 unfolding outcome_mention_at
 outcome_goes whole at within =
     goes_alike 1 MayFollow MayFollow OutcomeIn (Part IsOutcome) whole at _ (λ T f. f) (λ T f. outcome_alike T)
-    (goes_then 1 HasWord MayFollow (Part IsWholeNumber) (λ T. Part IsName (Part IsPayoffList T)) whole at (whole_at whole at) _ (whole_goes whole at within) name_word
+    (goes_then 1 HasWord MayFollow (Part IsWholeNumber) (λ T. Part IsName (Part IsPayoffList T)) whole at (whole_at whole at) _ (whole_goes whole at within)
+    name_word
     (λ number e inner grown.
-    goes_then 0 (NoFirst kinds.Text) MayFollow (Part IsName) (Part IsPayoffList) whole number.1 (name_at whole number.1) _ (name_goes whole number.1 inner) payoffs_follow
+    goes_then 0 (NoFirst kinds.Text) MayFollow (Part IsName) (Part IsPayoffList) whole number.1 (name_at whole number.1) _ (name_goes whole number.1 inner)
+    payoffs_follow
     (λ name e inner grown.
-    goes_alike 0 (NoFirst kinds.Open) MayFollow (Part IsPayoffList) (Part IsPayoffList) whole name.1 _ (λ T f. record { word = f.word; apart = f.no_open }) (λ T f. record { to = λ ss l. l; back = λ ss l. l })
-    (goes_with 0 (NoFirst kinds.Open) (Part IsPayoffList) whole name.1 (payoffs_at whole name.1) (λ payoffs. record { number = number.0; name = name.0; payoffs = payoffs.0 }) (payoff_list_goes whole name.1 inner)))))
+    goes_alike 0 (NoFirst kinds.Open) MayFollow (Part IsPayoffList) (Part IsPayoffList) whole name.1 _ (λ T f. record { word = f.word; apart = f.no_open })
+    (λ T f. record { to = λ ss l. l; back = λ ss l. l })
+    (goes_with 0 (NoFirst kinds.Open) (Part IsPayoffList) whole name.1 (payoffs_at whole name.1)
+    (λ payoffs. record { number = number.0; name = name.0; payoffs = payoffs.0 }) (payoff_list_goes whole name.1 inner)))))
 
 -- a number comes first
 outcome_follow : (T : List Spelled → Type 0) → MayFollow T → MayFollow (Part IsOutcome T)
@@ -136,28 +158,35 @@ chance_entry_goes : (whole : List ℕ) (at : ℕ) → at ≤ length whole
     → Goes 1 MayFollow ChanceIn whole at (chance_entry_at whole at)
 unfolding chance_entry_at
 chance_entry_goes whole at within =
-    goes_then 1 HasWord MayFollow (Part IsText) (λ T. Part (IsSet Chance) (Part IsOutcome T)) whole at (text_at whole at) _ (text_goes whole at within) (λ T f. set_word Chance (Part IsOutcome T) (outcome_follow T f))
+    goes_then 1 HasWord MayFollow (Part IsText) (λ T. Part (IsSet Chance) (Part IsOutcome T)) whole at (text_at whole at) _ (text_goes whole at within)
+    (λ T f. set_word Chance (Part IsOutcome T) (outcome_follow T f))
     (λ name e inner grown.
     goes_less 1 0 MayFollow (λ T. Part (IsSet Chance) (Part IsOutcome T)) whole name.1 _ (omega arith)
-    (goes_then 1 MayFollow MayFollow (Part (IsSet Chance)) (Part IsOutcome) whole name.1 (set_mention_at Chance whole name.1) _ (set_goes Chance whole name.1 inner) outcome_follow
+    (goes_then 1 MayFollow MayFollow (Part (IsSet Chance)) (Part IsOutcome) whole name.1 (set_mention_at Chance whole name.1) _
+    (set_goes Chance whole name.1 inner) outcome_follow
     (λ set e inner grown.
     goes_less 1 0 MayFollow (Part IsOutcome) whole set.1 _ (omega arith)
-    (goes_with 1 MayFollow (Part IsOutcome) whole set.1 (outcome_mention_at whole set.1) (λ outcome. record { kind = Chance; name = name.0; player = 0; set = set.0; outcome = outcome.0 }) (outcome_goes whole set.1 inner)))))
+    (goes_with 1 MayFollow (Part IsOutcome) whole set.1 (outcome_mention_at whole set.1)
+    (λ outcome. record { kind = Chance; name = name.0; player = 0; set = set.0; outcome = outcome.0 }) (outcome_goes whole set.1 inner)))))
 
 personal_entry_goes : (whole : List ℕ) (at : ℕ) → at ≤ length whole
     → Goes 1 MayFollow PersonalIn whole at (personal_entry_at whole at)
 unfolding personal_entry_at
 personal_entry_goes whole at within =
-    goes_then 1 HasWord MayFollow (Part IsText) (λ T. Part IsWholeNumber (Part (IsSet Personal) (Part IsOutcome T))) whole at (text_at whole at) _ (text_goes whole at within) (λ T f. whole_word (Part (IsSet Personal) (Part IsOutcome T)) (set_word Personal (Part IsOutcome T) (outcome_follow T f)))
+    goes_then 1 HasWord MayFollow (Part IsText) (λ T. Part IsWholeNumber (Part (IsSet Personal) (Part IsOutcome T))) whole at (text_at whole at) _
+    (text_goes whole at within) (λ T f. whole_word (Part (IsSet Personal) (Part IsOutcome T)) (set_word Personal (Part IsOutcome T) (outcome_follow T f)))
     (λ name e inner grown.
     goes_less 1 0 MayFollow (λ T. Part IsWholeNumber (Part (IsSet Personal) (Part IsOutcome T))) whole name.1 _ (omega arith)
-    (goes_then 1 HasWord MayFollow (Part IsWholeNumber) (λ T. Part (IsSet Personal) (Part IsOutcome T)) whole name.1 (whole_at whole name.1) _ (whole_goes whole name.1 inner) (λ T f. set_word Personal (Part IsOutcome T) (outcome_follow T f))
+    (goes_then 1 HasWord MayFollow (Part IsWholeNumber) (λ T. Part (IsSet Personal) (Part IsOutcome T)) whole name.1 (whole_at whole name.1) _
+    (whole_goes whole name.1 inner) (λ T f. set_word Personal (Part IsOutcome T) (outcome_follow T f))
     (λ player e inner grown.
     goes_less 1 0 MayFollow (λ T. Part (IsSet Personal) (Part IsOutcome T)) whole player.1 _ (omega arith)
-    (goes_then 1 MayFollow MayFollow (Part (IsSet Personal)) (Part IsOutcome) whole player.1 (set_mention_at Personal whole player.1) _ (set_goes Personal whole player.1 inner) outcome_follow
+    (goes_then 1 MayFollow MayFollow (Part (IsSet Personal)) (Part IsOutcome) whole player.1 (set_mention_at Personal whole player.1) _
+    (set_goes Personal whole player.1 inner) outcome_follow
     (λ set e inner grown.
     goes_less 1 0 MayFollow (Part IsOutcome) whole set.1 _ (omega arith)
-    (goes_with 1 MayFollow (Part IsOutcome) whole set.1 (outcome_mention_at whole set.1) (λ outcome. record { kind = Personal; name = name.0; player = player.0; set = set.0; outcome = outcome.0 }) (outcome_goes whole set.1 inner)))))))
+    (goes_with 1 MayFollow (Part IsOutcome) whole set.1 (outcome_mention_at whole set.1)
+    (λ outcome. record { kind = Personal; name = name.0; player = player.0; set = set.0; outcome = outcome.0 }) (outcome_goes whole set.1 inner)))))))
 
 terminal_entry_goes : (whole : List ℕ) (at : ℕ) → at ≤ length whole
     → Goes 1 MayFollow TerminalIn whole at (terminal_entry_at whole at)
@@ -166,7 +195,8 @@ terminal_entry_goes whole at within =
     goes_then 1 HasWord MayFollow (Part IsText) (Part IsOutcome) whole at (text_at whole at) _ (text_goes whole at within) (λ T f. (outcome_follow T f).word)
     (λ name e inner grown.
     goes_less 1 0 MayFollow (Part IsOutcome) whole name.1 _ (omega arith)
-    (goes_with 1 MayFollow (Part IsOutcome) whole name.1 (outcome_mention_at whole name.1) (λ outcome. record { kind = Leaf; name = name.0; player = 0; set = no_set_mention; outcome = outcome.0 }) (outcome_goes whole name.1 inner)))
+    (goes_with 1 MayFollow (Part IsOutcome) whole name.1 (outcome_mention_at whole name.1)
+    (λ outcome. record { kind = Leaf; name = name.0; player = 0; set = no_set_mention; outcome = outcome.0 }) (outcome_goes whole name.1 inner)))
 
 -- Entries.
 
@@ -179,8 +209,12 @@ chance_to T r ss rest is there =
 personal_to : (T : List Spelled → Type 0) (r : Record) (ss rest : List Spelled)
     → IsPersonalEntry r (word (codes "p") ∷ ss) rest → T rest → PersonalIn T ss
 personal_to T r ss rest is there =
-    let same : is.headed ≡ ss = let e = is.head in cc in
-    (r.name, is.named, subst (λ tokens. IsText r.name tokens is.named) same is.name, (r.player, is.moved, is.player, (r.set, is.placed, is.set, (r.outcome, rest, is.outcome, there))))
+    let same : is.headed ≡ ss = let e = is.head in cc in (
+      r.name,
+      is.named,
+      subst (λ tokens. IsText r.name tokens is.named) same is.name,
+      (r.player, is.moved, is.player, (r.set, is.placed, is.set, (r.outcome, rest, is.outcome, there))),
+    )
 
 terminal_to : (T : List Spelled → Type 0) (r : Record) (ss rest : List Spelled)
     → IsTerminalEntry r (word (codes "t") ∷ ss) rest → T rest → TerminalIn T ss
@@ -286,7 +320,11 @@ entry_goes whole at within =
     chosen : (t : Lexeme) → NextIs whole at t → t.end ≤ length whole → (b c : Bool)
         → is_exact kinds.Word (codes "c") whole t ≡ b → is_exact kinds.Word (codes "p") whole t ≡ c
         → (b || (c || is_exact kinds.Word (codes "t") whole t)) ≡ true
-        → Goes 0 MayFollow (λ T. After (spelled_at whole t) (Part IsEntry T)) whole t.end (cond b (chance_entry_at whole t.end) (cond c (personal_entry_at whole t.end) (terminal_entry_at whole t.end)))
-    chosen t step inner true c is is2 passes = behind t step inner (codes "c") is ChanceIn c_after (chance_entry_at whole t.end) (chance_entry_goes whole t.end inner)
-    chosen t step inner false true is is2 passes = behind t step inner (codes "p") is2 PersonalIn p_after (personal_entry_at whole t.end) (personal_entry_goes whole t.end inner)
-    chosen t step inner false false is is2 passes = behind t step inner (codes "t") passes TerminalIn t_after (terminal_entry_at whole t.end) (terminal_entry_goes whole t.end inner)
+        → Goes 0 MayFollow (λ T. After (spelled_at whole t) (Part IsEntry T)) whole t.end
+        (cond b (chance_entry_at whole t.end) (cond c (personal_entry_at whole t.end) (terminal_entry_at whole t.end)))
+    chosen t step inner true c is is2 passes = behind t step inner (codes "c") is ChanceIn c_after (chance_entry_at whole t.end)
+        (chance_entry_goes whole t.end inner)
+    chosen t step inner false true is is2 passes = behind t step inner (codes "p") is2 PersonalIn p_after (personal_entry_at whole t.end)
+        (personal_entry_goes whole t.end inner)
+    chosen t step inner false false is is2 passes = behind t step inner (codes "t") passes TerminalIn t_after (terminal_entry_at whole t.end)
+        (terminal_entry_goes whole t.end inner)

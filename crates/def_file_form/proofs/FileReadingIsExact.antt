@@ -85,7 +85,9 @@ unfolding game_at
 game_taken bytes game is =
     let f = is.file in
     let limit = entries_limit most_nodes refl is.entries is.no_fault in
-    let head = prologue_taken bytes 0 is.prologue (map spelled f.pieces) f.behind f.prologue (clear_entries is.entries f.behind f.entries) (ahead_pieces bytes f.pieces f.space f.in_turn f.spelling) in
-    let body = entries_taken (most_nodes + 1) [] is.entries no_contents none_known is.no_fault f.whole (omega (arith, limit)) bytes head.mid f.behind f.entries head.ahead in
+    let head = prologue_taken bytes 0 is.prologue (map spelled f.pieces) f.behind f.prologue (clear_entries is.entries f.behind f.entries)
+    (ahead_pieces bytes f.pieces f.space f.in_turn f.spelling) in
+    let body = entries_taken (most_nodes + 1) [] is.entries no_contents none_known is.no_fault f.whole (omega (arith, limit)) bytes head.mid f.behind f.entries
+    head.ahead in
     let last = ok_nothing bytes body.mid body.ahead.next in
     rw (head.ok, body.ok, last) (ap Ok (sym is.game_is))

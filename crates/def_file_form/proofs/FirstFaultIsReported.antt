@@ -1,5 +1,6 @@
 -- With the first fault reading stops.
-use Rattle.std.proofs.Common.{◌≡◌, ◌≢◌, ℕ, zero, suc, ◌+◌, ◌-◌, ◌≤◌, List, [], ◌∷◌, ◌++◌, length, Some, Result, Ok, Err, sym, refl, ap, ◌∙◌, subst, arith, append_assoc, append-nil, eq-eqb}
+use Rattle.std.proofs.Common.{◌≡◌, ◌≢◌, ℕ, zero, suc, ◌+◌, ◌-◌, ◌≤◌, List, [], ◌∷◌, ◌++◌, length, Some, Result, Ok, Err, sym, refl, ap, ◌∙◌, subst, arith}
+use Rattle.std.proofs.Common.{append_assoc, append-nil, eq-eqb}
 use Rattle.std.specs.Prelude.{unwrap_or}
 use Rattle.std.proofs.lemmas.Bool.{ne_eqb}
 use Rattle.def_tree.specs.Tree.{wanted, Begins}
@@ -17,7 +18,8 @@ use Rattle.def_file.proofs.EntryFaults.{entry_fault_is_first_broken}
 use Rattle.def_file.proofs.NoFault.{no_fault_here, entries_limit}
 use Rattle.def_file_form.proofs.Entries.{entry_wanted, ok_judged}
 use Rattle.def_file_form.specs.Offends.{Offends}
-use Rattle.def_file_form.specs.First.{IsHeadUpTo, AreEntriesFrom, IsPrologueUpTo, IsReadUpTo, IsPlayersFault, IsCommentFault, IsEntryFault, IsRuleFault, IsTrailingFault, FirstFault, in_head, in_players, in_comment, in_entry, in_rules, behind_tree, IsHeadTokens}
+use Rattle.def_file_form.specs.First.{IsHeadUpTo, AreEntriesFrom, IsPrologueUpTo, IsReadUpTo, IsPlayersFault, IsCommentFault, IsEntryFault, IsRuleFault}
+use Rattle.def_file_form.specs.First.{IsTrailingFault, FirstFault, in_head, in_players, in_comment, in_entry, in_rules, behind_tree, IsHeadTokens}
 use Rattle.def_file_form.proofs.Heads.{prologue_is}
 use Rattle.def_file_form.proofs.TokensOfReadParts.{next_order}
 use Rattle.def_file_form.proofs.ReportedFaultIsFirst.{Checked, two, others, checked}
@@ -95,7 +97,8 @@ entries_run whole done (r ∷ rs) at end (suc fuel) left within are no_fault beg
     let judge = ok_judged (contents_of done) r (no_fault_here done r rs no_fault) in
     let inner = (next_order whole at are.1.tokens mid within are.1.next).1 in
     let regrouped : done ++ r ∷ [] ++ rs ≡ done ++ r ∷ rs = append_assoc done (r ∷ []) rs in
-    let later = entries_run whole (done ++ r ∷ []) rs mid end fuel left inner are.2 (subst HaveNoFault (sym regrouped) no_fault) (subst (λ l. Begins 1 (contents_of l).nodes) (sym regrouped) begins) (omega (arith, fuel_is)) in (
+    let later = entries_run whole (done ++ r ∷ []) rs mid end fuel left inner are.2 (subst HaveNoFault (sym regrouped) no_fault)
+    (subst (λ l. Begins 1 (contents_of l).nodes) (sym regrouped) begins) (omega (arith, fuel_is)) in (
       more_here fuel (contents_of done) whole at (λ none. omega (arith, some, none))
           ∙ ap (λ e. e >>= λ x. judged (contents_of done) x.0 >>= λ next. entries_from fuel next whole x.1) here
           ∙ ap (λ j. j >>= λ next. entries_from fuel next whole mid) judge
@@ -122,7 +125,13 @@ read_on whole p rs at read = from most_nodes refl
         let limit = entries_limit most is rs read.no_fault in
         let fuel : most + 1 ≡ length rs + suc (most - length rs) = omega (arith, limit) in
         let run = entries_run whole [] rs read.behind at (most + 1) (suc (most - length rs)) p_is.1 read.entries read.no_fault read.begins fuel in
-        record { behind = read.behind; prologue = p_is.0; left = most - length rs; entries = ap (λ n. entries_from (n + 1) no_contents whole read.behind) (sym is) ∙ run.0; within = run.1 }
+        record {
+          behind = read.behind;
+          prologue = p_is.0;
+          left = most - length rs;
+          entries = ap (λ n. entries_from (n + 1) no_contents whole read.behind) (sym is) ∙ run.0;
+          within = run.1;
+        }
 
 -- The faults.
 
@@ -152,18 +161,21 @@ behind_others whole title names end count (two is same) = absurd (count is)
 behind_others whole title names end count (others is same) = err_first (checked_names names end) _ (Players (length names)) same
 
 players_faulted : (whole : List ℕ) (fault : FileFault) → IsPlayersFault whole fault → prologue_at whole 0 ≡ Err fault
-players_faulted whole fault is = behind_is whole is.title is.names is.end is.head ∙ behind_others whole is.title is.names is.end is.count (checked is.names is.end) ∙ ap Err (sym is.fault_is)
+players_faulted whole fault is = behind_is whole is.title is.names is.end is.head
+    ∙ behind_others whole is.title is.names is.end is.count (checked is.names is.end) ∙ ap Err (sym is.fault_is)
 
 comment_faulted : (whole : List ℕ) (fault : FileFault) → IsCommentFault whole fault → prologue_at whole 0 ≡ Err fault
 comment_faulted whole fault is =
     behind_is whole is.title (is.one ∷ is.two ∷ []) is.end is.head ∙ behind_two whole is.title is.one is.two is.end
-    ∙ err_first (name_at whole is.end) _ fault (comment_offended whole is.end (head_within whole is.title (is.one ∷ is.two ∷ []) is.end is.head) fault is.offends)
+    ∙ err_first (name_at whole is.end) _ fault (comment_offended whole is.end (head_within whole is.title (is.one ∷ is.two ∷ []) is.end is.head) fault
+    is.offends)
 
 entry_faulted : (whole : List ℕ) (fault : FileFault) → IsEntryFault whole fault → game_at whole ≡ Err fault
 entry_faulted whole fault is =
     let on = read_on whole is.prologue is.entries is.end is.read in
     game_entries whole is.prologue on.behind fault on.prologue
-    (on.entries ∙ more_here on.left (contents_of is.entries) whole is.end is.open_tree ∙ err_first (entry_at whole is.end) _ fault (entry_offended whole is.end on.within fault is.offends))
+    (on.entries ∙ more_here on.left (contents_of is.entries) whole is.end is.open_tree
+    ∙ err_first (entry_at whole is.end) _ fault (entry_offended whole is.end on.within fault is.offends))
 
 rule_faulted : (whole : List ℕ) (fault : FileFault) → IsRuleFault whole fault → game_at whole ≡ Err fault
 rule_faulted whole fault is =
@@ -172,7 +184,8 @@ rule_faulted whole fault is =
     game_entries whole is.prologue on.behind fault on.prologue
     (on.entries ∙ more_here on.left contents whole is.end is.open_tree
     ∙ ap (λ r. r >>= λ x. judged contents x.0 >>= λ next. entries_from on.left next whole x.1) (entry_decided whole is.end on.within is.entry is.behind is.next)
-    ∙ ap (λ r. r >>= λ next. entries_from on.left next whole is.behind) (judged_fault contents is.entry fault ((entry_fault_is_first_broken is.entries is.entry fault is.read.no_fault).1 is.rule)))
+    ∙ ap (λ r. r >>= λ next. entries_from on.left next whole is.behind) (judged_fault contents is.entry fault
+    ((entry_fault_is_first_broken is.entries is.entry fault is.read.no_fault).1 is.rule)))
 
 trailing_faulted : (whole : List ℕ) (fault : FileFault) → IsTrailingFault whole fault → game_at whole ≡ Err fault
 trailing_faulted whole fault is =

@@ -1,5 +1,6 @@
 -- The head of the prologue.
-use Rattle.std.proofs.Common.{◌≡◌, ℕ, zero, suc, ◌+◌, ◌≤◌, Bool, true, false, cond, ◌&&◌, ◌||◌, List, [], ◌∷◌, ◌++◌, length, Result, sym, refl, ap, ◌∙◌, subst, arith, ◌⊎◌, inl, inr, ⊎_elim}
+use Rattle.std.proofs.Common.{◌≡◌, ℕ, zero, suc, ◌+◌, ◌≤◌, Bool, true, false, cond, ◌&&◌, ◌||◌, List, [], ◌∷◌, ◌++◌, length, Result, sym, refl, ap, ◌∙◌, subst}
+use Rattle.std.proofs.Common.{arith, ◌⊎◌, inl, inr, ⊎_elim}
 use Rattle.std.specs.Prelude.{codes, nat_eq}
 use Rattle.std.specs.Cmp.Lexicographic.{pointwise}
 use Rattle.def_file_tokens.specs.declared.Token.{Token}
@@ -12,7 +13,8 @@ use Rattle.def_file_form.proofs.SoundEntries.{IsPrologueHead}
 use Rattle.def_file_form.proofs.TokenByToken.{either, exact_here, open_step, ok_token}
 use Rattle.def_file_form.proofs.Languages.{Alike, AlikeBut, FirstIsOther, After, NextIs}
 use Rattle.def_file_form.proofs.NextByteTellsToken.{not_next}
-use Rattle.def_file_form.proofs.SuccessiveReadings.{HasWord, Goes, goes_then, goes_with, goes_alike, goes_less, goes_other, FirstTaken, IsTest, BeginsPassing, goes_token}
+use Rattle.def_file_form.proofs.SuccessiveReadings.{HasWord, Goes, goes_then, goes_with, goes_alike, goes_less, goes_other, FirstTaken, IsTest, BeginsPassing}
+use Rattle.def_file_form.proofs.SuccessiveReadings.{goes_token}
 use Rattle.def_file_form.proofs.OneTokenParts.{Part, each_takes_one, kind_test, text_word, text_goes}
 use Rattle.def_file_form.proofs.Lists.{close_goes, spent, no_text_closes}
 
@@ -54,10 +56,12 @@ names_goes (suc left) done whole at within left_is =
     chosen : (b : Bool) → next_is close_byte whole at ≡ b
         → ((text : List ℕ × ℕ) → text.1 ≤ length whole → at + 1 ≤ text.1
         → Goes 1 HasWord (Part AreNames) whole text.1 (names_from left (done ++ text.0 ∷ []) whole text.1))
-        → Goes 1 HasWord (Part AreNames) whole at (cond b (close_at done whole at) (text_at whole at >>= λ text. names_from left (done ++ text.0 ∷ []) whole text.1))
+        → Goes 1 HasWord (Part AreNames) whole at (cond b (close_at done whole at)
+        (text_at whole at >>= λ text. names_from left (done ++ text.0 ∷ []) whole text.1))
     chosen true is again = close_goes done HasWord (Part AreNames) whole at within is (λ T word. names_closed T)
     chosen false is again =
-        goes_other 1 kinds.Close (λ clash. cc) HasWord (λ T. Part IsText (Part AreNames T)) (Part AreNames) whole at _ (λ T word. names_but T) (not_next kinds.Close (omega arith) whole at is)
+        goes_other 1 kinds.Close (λ clash. cc) HasWord (λ T. Part IsText (Part AreNames T)) (Part AreNames) whole at _ (λ T word. names_but T)
+        (not_next kinds.Close (omega arith) whole at is)
         (goes_then 1 HasWord HasWord (Part IsText) (Part AreNames) whole at (text_at whole at) _ (text_goes whole at within) names_word
         (λ text e inner grown. goes_less 1 0 HasWord (Part AreNames) whole text.1 _ (omega arith) (again text inner grown)))
 
@@ -88,8 +92,15 @@ head_alike : (T : List Spelled → Type 0)
     → Alike (Part IsPrologueHead T) (Marked (word (codes "EFG")) (Marked (number (codes "2")) (NumberThenTitled T)))
 head_alike T = record {
   to = λ ss l.
-      let is = l.2 in
-      (number (codes "2") ∷ is.numbers ∷ is.headed, is.head, (is.numbers ∷ is.headed, refl, (is.numbers, is.headed, is.rational, refl, (l.0.0, is.titled, is.title_text, (is.opened, is.brace, (l.0.1, l.1, is.name_texts, l.3))))));
+      let is = l.2 in (
+        number (codes "2") ∷ is.numbers ∷ is.headed,
+        is.head,
+        (
+          is.numbers ∷ is.headed,
+          refl,
+          (is.numbers, is.headed, is.rational, refl, (l.0.0, is.titled, is.title_text, (is.opened, is.brace, (l.0.1, l.1, is.name_texts, l.3)))),
+        ),
+      );
   back = λ ss l.
       let m = l.2 in
       let n = m.2 in
@@ -170,27 +181,37 @@ pub head_goes : (whole : List ℕ) (at : ℕ) → at ≤ length whole
     → Goes 1 HasWord (Part IsPrologueHead) whole at (head_at whole at)
 unfolding head_at
 head_goes whole at within =
-    goes_alike 1 HasWord HasWord (λ T. Marked (word (codes "EFG")) (Marked (number (codes "2")) (NumberThenTitled T))) (Part IsPrologueHead) whole at _ (λ T w. w) (λ T w. head_alike T)
+    goes_alike 1 HasWord HasWord (λ T. Marked (word (codes "EFG")) (Marked (number (codes "2")) (NumberThenTitled T))) (Part IsPrologueHead) whole at _
+    (λ T w. w) (λ T w. head_alike T)
     (goes_token HasWord (λ T. Marked (word (codes "EFG")) (Marked (number (codes "2")) (NumberThenTitled T))) (exact_test kinds.Word (codes "EFG")) word_is_test
-    (marked_begins (word (codes "EFG")) (exact_test kinds.Word (codes "EFG")) refl (λ T. Marked (number (codes "2")) (NumberThenTitled T)) version_begins.word) whole at _ within
+    (marked_begins (word (codes "EFG")) (exact_test kinds.Word (codes "EFG")) refl (λ T. Marked (number (codes "2")) (NumberThenTitled T)) version_begins.word)
+    whole at _ within
     (λ marker step passes inner.
-    step_goes (λ T. Marked (word (codes "EFG")) (Marked (number (codes "2")) (NumberThenTitled T))) (λ T. Marked (number (codes "2")) (NumberThenTitled T)) (word (codes "EFG")) whole marker _
-    ((exact_here whole at within marker kinds.Word (codes "EFG") (λ clash. cc) step.next passes).spelled) (λ T. marked_after (word (codes "EFG")) (Marked (number (codes "2")) (NumberThenTitled T)))
-    (goes_token HasWord (λ T. Marked (number (codes "2")) (NumberThenTitled T)) (exact_test kinds.Number (codes "2")) version_is_test version_begins whole marker.end _ inner
+    step_goes (λ T. Marked (word (codes "EFG")) (Marked (number (codes "2")) (NumberThenTitled T))) (λ T. Marked (number (codes "2")) (NumberThenTitled T))
+    (word (codes "EFG")) whole marker _
+    ((exact_here whole at within marker kinds.Word (codes "EFG") (λ clash. cc) step.next passes).spelled)
+    (λ T. marked_after (word (codes "EFG")) (Marked (number (codes "2")) (NumberThenTitled T)))
+    (goes_token HasWord (λ T. Marked (number (codes "2")) (NumberThenTitled T)) (exact_test kinds.Number (codes "2")) version_is_test version_begins whole
+    marker.end _ inner
     (λ version step passes inner2.
     step_goes (λ T. Marked (number (codes "2")) (NumberThenTitled T)) NumberThenTitled (number (codes "2")) whole version _
-    ((exact_here whole marker.end inner version kinds.Number (codes "2") (λ clash. cc) step.next passes).spelled) (λ T. marked_after (number (codes "2")) (NumberThenTitled T))
+    ((exact_here whole marker.end inner version kinds.Number (codes "2") (λ clash. cc) step.next passes).spelled)
+    (λ T. marked_after (number (codes "2")) (NumberThenTitled T))
     (goes_token HasWord NumberThenTitled rational_test rational_is_test numbered_begins whole version.end _ inner2
     (λ numbers step passes inner3.
-    step_goes NumberThenTitled Titled (spelled_at whole numbers) whole numbers _ refl (numbered_after (spelled_at whole numbers) (rational whole version.end inner2 numbers step passes))
-    (goes_then 1 HasWord HasWord (Part IsText) (λ T. Marked open_brace (Part AreNames T)) whole numbers.end (text_at whole numbers.end) _ (text_goes whole numbers.end inner3) open_begins.word
+    step_goes NumberThenTitled Titled (spelled_at whole numbers) whole numbers _ refl
+    (numbered_after (spelled_at whole numbers) (rational whole version.end inner2 numbers step passes))
+    (goes_then 1 HasWord HasWord (Part IsText) (λ T. Marked open_brace (Part AreNames T)) whole numbers.end (text_at whole numbers.end) _
+    (text_goes whole numbers.end inner3) open_begins.word
     (λ title e inner4 grown.
     goes_less 1 0 HasWord (λ T. Marked open_brace (Part AreNames T)) whole title.1 _ (omega arith)
-    (goes_token HasWord (λ T. Marked open_brace (Part AreNames T)) (λ s. is_kind kinds.Open s.kind) (kind_test kinds.Open (λ clash. cc) (λ clash. cc)) open_begins whole title.1 _ inner4
+    (goes_token HasWord (λ T. Marked open_brace (Part AreNames T)) (λ s. is_kind kinds.Open s.kind) (kind_test kinds.Open (λ clash. cc) (λ clash. cc))
+    open_begins whole title.1 _ inner4
     (λ opening step passes inner5.
     step_goes (λ T. Marked open_brace (Part AreNames T)) (Part AreNames) open_brace whole opening _
     (opened whole title.1 inner4 opening step passes) (λ T. marked_after open_brace (Part AreNames T))
-    (goes_with 1 HasWord (Part AreNames) whole opening.end (names_from (length whole) [] whole opening.end) (λ names. (title.0, names.0)) (names_goes (length whole) [] whole opening.end inner5 (omega arith)))))))))))))
+    (goes_with 1 HasWord (Part AreNames) whole opening.end (names_from (length whole) [] whole opening.end) (λ names. (title.0, names.0))
+    (names_goes (length whole) [] whole opening.end inner5 (omega arith)))))))))))))
   where
     version_begins : BeginsPassing HasWord (λ T. Marked (number (codes "2")) (NumberThenTitled T))
         (exact_test kinds.Number (codes "2"))
@@ -206,5 +227,6 @@ head_goes whole at within =
     rational : (whole : List ℕ) (at : ℕ) → at ≤ length whole → (t : Lexeme) → NextIs whole at t
         → rational_test (spelled_at whole t) ≡ true → IsRational (spelled_at whole t)
     rational whole at within t step passes =
-        ⊎_elim (λ is. inl (exact_here whole at within t kinds.Word (codes "R") (λ clash. cc) step.next is).spelled) (λ is. inr (exact_here whole at within t kinds.Word (codes "D") (λ clash. cc) step.next is.1).spelled)
+        ⊎_elim (λ is. inl (exact_here whole at within t kinds.Word (codes "R") (λ clash. cc) step.next is).spelled)
+        (λ is. inr (exact_here whole at within t kinds.Word (codes "D") (λ clash. cc) step.next is.1).spelled)
         (either (exact_test kinds.Word (codes "R") (spelled_at whole t)) (exact_test kinds.Word (codes "D") (spelled_at whole t)) passes)

@@ -219,7 +219,8 @@ module _ (whole : List ℕ) (fault : FileFault) where
     place = s.place;
     before = (t, step.next, step.not_end, refl, s.before);
     front = s.front;
-    halt = halt_back Any L (After (spelled_at whole t) L) whole (spelled_at whole t ∷ s.tokens) s.tokens s.place (after_goes L (spelled_at whole t) s.tokens) (any_may whole s.place) fault s.halt;
+    halt = halt_back Any L (After (spelled_at whole t) L) whole (spelled_at whole t ∷ s.tokens) s.tokens s.place (after_goes L (spelled_at whole t) s.tokens)
+        (any_may whole s.place) fault s.halt;
   }
 
   stuck_other : (kind : Token) → kind ≢ kinds.Number → (L M : List Spelled → Type 0) (at : ℕ) → AlikeBut kind L M
@@ -233,14 +234,16 @@ module _ (whole : List ℕ) (fault : FileFault) where
         place = place;
         before = before;
         front = (front.0, but.back front.0 front.1);
-        halt = halt_back (λ s. s.kind ≢ kind) L M whole [] [] place (but_goes kind no_number L M but) (but_may kind no_number L M but whole place (subst (NotNext kind whole) before none)) fault halt;
+        halt = halt_back (λ s. s.kind ≢ kind) L M whole [] [] place (but_goes kind no_number L M but)
+            (but_may kind no_number L M but whole place (subst (NotNext kind whole) before none)) fault halt;
       }
       other (s ∷ ss) place before front halt = record {
         tokens = s ∷ ss;
         place = place;
         before = before;
         front = (front.0, but.back _ front.1);
-        halt = halt_back Any L M whole (s ∷ ss) (s ∷ ss) place (behind_goes kind no_number L M but s (first_fits kind whole at none s ss place before) ss) (any_may whole place) fault halt;
+        halt = halt_back Any L M whole (s ∷ ss) (s ∷ ss) place (behind_goes kind no_number L M but s (first_fits kind whole at none s ss place before) ss)
+            (any_may whole place) fault halt;
       }
 
 -- where reading is stuck is carried along a language, from token to token
@@ -264,7 +267,8 @@ module _ (whole : List ℕ) (end : ℕ) where
     tokens = spelled_at whole t ∷ s.tokens;
     before = (t, step.next, step.not_end, refl, s.before);
     word = s.word;
-    ends = ends_back Any L (After (spelled_at whole t) L) whole (spelled_at whole t ∷ s.tokens) s.tokens end (after_goes L (spelled_at whole t) s.tokens) (any_may whole end) s.ends;
+    ends = ends_back Any L (After (spelled_at whole t) L) whole (spelled_at whole t ∷ s.tokens) s.tokens end (after_goes L (spelled_at whole t) s.tokens)
+        (any_may whole end) s.ends;
     no_number = s.no_number;
   }
 
@@ -278,7 +282,8 @@ module _ (whole : List ℕ) (end : ℕ) where
         tokens = [];
         before = before;
         word = but.back [] word;
-        ends = ends_back (λ s. s.kind ≢ kind) L M whole [] [] end (but_goes kind no_number L M but) (but_may kind no_number L M but whole end (subst (NotNext kind whole) before none)) ends;
+        ends = ends_back (λ s. s.kind ≢ kind) L M whole [] [] end (but_goes kind no_number L M but)
+            (but_may kind no_number L M but whole end (subst (NotNext kind whole) before none)) ends;
         no_number = λ bytes front. numbers bytes (front.0, but.to _ (λ same. no_number (sym same)) front.1);
       }
       other (s ∷ ss) before word ends numbers =
@@ -307,4 +312,10 @@ halt_stops L whole tokens place fault (bad_number p why is unfinished n) = subst
 -- where reading is stuck stands the first token that can't be taken, with the same fault
 pub offends : (L : List Spelled → Type 0) (whole : List ℕ) (at : ℕ) (fault : FileFault) → Stuck L whole at fault
     → Offends L whole at fault
-offends L whole at fault s = record { tokens = s.tokens; place = s.place; before = s.before; front = s.front; stop = halt_stops L whole s.tokens s.place fault s.halt }
+offends L whole at fault s = record {
+  tokens = s.tokens;
+  place = s.place;
+  before = s.before;
+  front = s.front;
+  stop = halt_stops L whole s.tokens s.place fault s.halt;
+}

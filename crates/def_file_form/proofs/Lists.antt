@@ -1,5 +1,6 @@
 -- Lists of actions.
-use Rattle.std.proofs.Common.{◌≡◌, ℕ, zero, suc, ◌+◌, ◌≤◌, Bool, true, false, cond, List, [], ◌∷◌, ◌++◌, length, Option, Some, None, Result, Ok, Err, sym, refl, ap, subst, arith}
+use Rattle.std.proofs.Common.{◌≡◌, ℕ, zero, suc, ◌+◌, ◌≤◌, Bool, true, false, cond, List, [], ◌∷◌, ◌++◌, length, Option, Some, None, Result, Ok, Err, sym, refl}
+use Rattle.std.proofs.Common.{ap, subst, arith}
 use Rattle.def_file_tokens.specs.declared.Token.{Token}
 use Rattle.def_file_tokens.specs.declared.Token.TheVariants as kinds
 use Rattle.def_file_tokens.specs.declared.Lexeme.{Lexeme}
@@ -11,7 +12,8 @@ use Rattle.def_file.specs.declared.EntryKind.{EntryKind}
 use Rattle.def_file.specs.declared.EntryKind.TheVariants.{Chance, Personal, Leaf}
 use Rattle.def_fraction.specs.Fraction.{zero_fraction}
 use Rattle.def_file.specs.Content.{Action}
-use Rattle.def_file.specs.Reading.{◌>>=◌, is_kind, is_token, token_where, next_is, open_byte, close_byte, text_at, chance_at, action_at, close_at, actions_from, actions_at}
+use Rattle.def_file.specs.Reading.{◌>>=◌, is_kind, is_token, token_where, next_is, open_byte, close_byte, text_at, chance_at, action_at, close_at, actions_from}
+use Rattle.def_file.specs.Reading.{actions_at}
 use Rattle.def_file_form.specs.Form.{Spelled, text, open_brace, close_brace, IsText, IsFraction, IsChance, AreActionsUpTo, IsActionList, spelled_at}
 use Rattle.def_file_form.proofs.TokenByToken.{ok_token, open_step, close_step}
 use Rattle.def_file_form.proofs.Languages.{Alike, AlikeBut, FirstIsOther, After, NextIs, Halt}
@@ -64,7 +66,8 @@ pub close_goes : {A : Type 0} (value : A) (F : (List Spelled → Type 0) → Typ
 unfolding close_at
 close_goes value F In whole at within is alike =
     let m = close_mark whole at within is in
-    goes_mark kinds.Close close_brace F In whole at within m (λ token. Ok (value, token.end)) (goes_past 0 F (λ T. After close_brace (In T)) whole m.t.end (value, m.t.end) (record {
+    goes_mark kinds.Close close_brace F In whole at within m (λ token. Ok (value, token.end))
+    (goes_past 0 F (λ T. After close_brace (In T)) whole m.t.end (value, m.t.end) (record {
       within = (step_grows whole at within m.t m.step).1;
       grows = omega arith;
       along = λ P walk T g there. walk.alike (After close_brace (In T)) T m.t.end (alike T g) there;
@@ -80,7 +83,13 @@ spent F In whole at within past word unfinished =
     let same : length whole ≡ at = omega (arith, past) in
     let end = span kinds.End (length whole) (length whole) in
     let next : next_from whole at ≡ Ok end = subst (λ n. next_from whole n ≡ Ok end) same (next_from-end whole) in
-    goes_stuck 1 F In whole at UnexpectedEnd (λ T g. record { tokens = []; place = at; before = refl; front = word T g; halt = Halt.no_token end refl (unfinished T g) next refl })
+    goes_stuck 1 F In whole at UnexpectedEnd (λ T g. record {
+      tokens = [];
+      place = at;
+      before = refl;
+      front = word T g;
+      halt = Halt.no_token end refl (unfinished T g) next refl;
+    })
 
 -- Actions.
 
@@ -114,7 +123,8 @@ action_goes : (kind : EntryKind) (whole : List ℕ) (at : ℕ) → at ≤ length
 unfolding action_at
 action_goes kind whole at within =
     goes_then 1 HasWord HasWord (Part IsText) (Part (IsChance kind)) whole at (text_at whole at) _ (text_goes whole at within) (chance_word kind)
-    (λ name e inner grown. goes_with 0 HasWord (Part (IsChance kind)) whole name.1 (chance_at kind whole name.1) (λ chance. record { name = name.0; chance = chance.0 }) (chance_goes kind whole name.1 inner))
+    (λ name e inner grown. goes_with 0 HasWord (Part (IsChance kind)) whole name.1 (chance_at kind whole name.1)
+    (λ chance. record { name = name.0; chance = chance.0 }) (chance_goes kind whole name.1 inner))
 
 -- no text begins with a closing brace
 pub no_text_closes : (bytes : List ℕ) (ss rest : List Spelled) → IsText bytes (close_brace ∷ ss) rest → ⊥
@@ -160,18 +170,23 @@ actions_goes : (kind : EntryKind) (left : ℕ) (done : List Action) (whole : Lis
     → length whole ≤ at + left
     → Goes 1 HasWord (Part (AreActionsUpTo kind)) whole at (actions_from kind left done whole at)
 unfolding actions_from
-actions_goes kind zero done whole at within left_is = spent HasWord (Part (AreActionsUpTo kind)) whole at within left_is (actions_word kind) (λ T word. actions_open kind T)
+actions_goes kind zero done whole at within left_is = spent HasWord (Part (AreActionsUpTo kind)) whole at within left_is (actions_word kind)
+    (λ T word. actions_open kind T)
 actions_goes kind (suc left) done whole at within left_is =
-    chosen (next_is close_byte whole at) refl (λ action inner grown. actions_goes kind left (done ++ action.0 ∷ []) whole action.1 inner (omega (arith, grown, left_is)))
+    chosen (next_is close_byte whole at) refl (λ action inner grown. actions_goes kind left (done ++ action.0 ∷ []) whole action.1 inner
+    (omega (arith, grown, left_is)))
   where
     chosen : (b : Bool) → next_is close_byte whole at ≡ b
         → ((action : Action × ℕ) → action.1 ≤ length whole → at + 1 ≤ action.1
         → Goes 1 HasWord (Part (AreActionsUpTo kind)) whole action.1 (actions_from kind left (done ++ action.0 ∷ []) whole action.1))
-        → Goes 1 HasWord (Part (AreActionsUpTo kind)) whole at (cond b (close_at done whole at) (action_at kind whole at >>= λ action. actions_from kind left (done ++ action.0 ∷ []) whole action.1))
+        → Goes 1 HasWord (Part (AreActionsUpTo kind)) whole at (cond b (close_at done whole at)
+        (action_at kind whole at >>= λ action. actions_from kind left (done ++ action.0 ∷ []) whole action.1))
     chosen true is again = close_goes done HasWord (Part (AreActionsUpTo kind)) whole at within is (λ T word. actions_closed kind T)
     chosen false is again =
-        goes_other 1 kinds.Close (λ clash. cc) HasWord (λ T. IsActionIn kind (Part (AreActionsUpTo kind) T)) (Part (AreActionsUpTo kind)) whole at _ (λ T word. actions_but kind T) (not_next kinds.Close (omega arith) whole at is)
-        (goes_then 1 HasWord HasWord (IsActionIn kind) (Part (AreActionsUpTo kind)) whole at (action_at kind whole at) _ (action_goes kind whole at within) (actions_word kind)
+        goes_other 1 kinds.Close (λ clash. cc) HasWord (λ T. IsActionIn kind (Part (AreActionsUpTo kind) T)) (Part (AreActionsUpTo kind)) whole at _
+        (λ T word. actions_but kind T) (not_next kinds.Close (omega arith) whole at is)
+        (goes_then 1 HasWord HasWord (IsActionIn kind) (Part (AreActionsUpTo kind)) whole at (action_at kind whole at) _ (action_goes kind whole at within)
+        (actions_word kind)
         (λ action e inner grown. goes_less 1 0 HasWord (Part (AreActionsUpTo kind)) whole action.1 _ (omega arith) (again action inner grown)))
 
 -- A list that may be absent.
@@ -217,13 +232,17 @@ unfolding actions_at
 action_list_goes kind whole at within = chosen (next_is open_byte whole at) refl
   where
     chosen : (b : Bool) → next_is open_byte whole at ≡ b
-        → Goes 0 (NoFirst kinds.Open) (Part (IsActionList kind)) whole at (cond b (token_where (is_token kinds.Open whole) whole at >>= λ opening. (actions_from kind (length whole) [] whole opening.end >>= λ actions. Ok (Some actions.0, actions.1))) (Ok (None, at)))
+        → Goes 0 (NoFirst kinds.Open) (Part (IsActionList kind)) whole at
+        (cond b (token_where (is_token kinds.Open whole) whole at >>= λ opening.
+        (actions_from kind (length whole) [] whole opening.end >>= λ actions. Ok (Some actions.0, actions.1))) (Ok (None, at)))
     chosen true is =
         goes_less 1 0 (NoFirst kinds.Open) (Part (IsActionList kind)) whole at _ (omega arith)
-        (list_goes (NoFirst kinds.Open) (Part (AreActionsUpTo kind)) (Part (IsActionList kind)) whole at within is (λ mid. actions_from kind (length whole) [] whole mid) (λ actions. Some actions.0) (λ T f. f.word) (action_list_after kind)
+        (list_goes (NoFirst kinds.Open) (Part (AreActionsUpTo kind)) (Part (IsActionList kind)) whole at within is
+        (λ mid. actions_from kind (length whole) [] whole mid) (λ actions. Some actions.0) (λ T f. f.word) (action_list_after kind)
         (λ mid inner. actions_goes kind (length whole) [] whole mid inner (omega arith)))
     chosen false is = goes_past 0 (NoFirst kinds.Open) (Part (IsActionList kind)) whole at (None, at) (record {
       within = within;
       grows = omega arith;
-      along = λ P walk T f there. walk.other kinds.Open (λ clash. cc) (Part (IsActionList kind) T) T at (action_list_but kind T) (not_next kinds.Open (omega arith) whole at is) there;
+      along = λ P walk T f there. walk.other kinds.Open (λ clash. cc) (Part (IsActionList kind) T) T at (action_list_but kind T)
+          (not_next kinds.Open (omega arith) whole at is) there;
     })

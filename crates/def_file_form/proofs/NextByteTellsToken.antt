@@ -1,5 +1,6 @@
 -- The next byte that isn't white space, and the next token.
-use Rattle.std.proofs.Common.{◌≡◌, ◌≢◌, ℕ, zero, suc, ◌+◌, ◌-◌, ◌<◌, ◌≤◌, Bool, true, false, cond, List, [], ◌∷◌, ◌++◌, length, take, drop, Option, Some, None, Result, Ok, Err, sym, refl, ap, ◌∙◌, subst, arith, ⊎_elim}
+use Rattle.std.proofs.Common.{◌≡◌, ◌≢◌, ℕ, zero, suc, ◌+◌, ◌-◌, ◌<◌, ◌≤◌, Bool, true, false, cond, List, [], ◌∷◌, ◌++◌, length, take, drop, Option, Some, None}
+use Rattle.std.proofs.Common.{Result, Ok, Err, sym, refl, ap, ◌∙◌, subst, arith, ⊎_elim}
 use Rattle.std.specs.Prelude.{nat_eq, slice_get}
 use Rattle.std.specs.List.{slice_range}
 use Rattle.std.proofs.lemmas.Bool.{eqb-true, eqb-false, ne_eqb, cases_lt}
@@ -39,7 +40,8 @@ pub step_grows : (whole : List ℕ) (at : ℕ) → at ≤ length whole → (t : 
 step_grows whole at within t step =
     let is = next_from-sound whole at within t step.next in
     let some : t.start < t.end = ⊎_elim (λ less. less)
-    (λ same. absurd (not_empty t.kind (drop t.end whole) step.not_end (subst (λ bytes. IsToken t.kind bytes (drop t.end whole)) (none_between whole t.start t.end same) is.token)))
+    (λ same. absurd (not_empty t.kind (drop t.end whole) step.not_end (subst (λ bytes. IsToken t.kind bytes (drop t.end whole))
+    (none_between whole t.start t.end same) is.token)))
     (cases_lt t.start t.end) in
     (omega (arith, is.from, some), is.within)
 
@@ -131,17 +133,29 @@ mark_next whole at byte kind reads is = let b = next_begins byte whole at is in 
 -- where the byte of an opening brace is next, the next token is one
 pub open_next : (whole : List ℕ) (at : ℕ) → next_is 123 whole at ≡ true
     → (t : Lexeme) × (next_from whole at ≡ Ok t) × (t.kind ≡ kinds.Open)
-open_next whole at is = (span kinds.Open (after_space whole at) (after_space whole at + 1), mark_next whole at 123 kinds.Open (λ start rest. token_at-open start 123 rest refl) is, refl)
+open_next whole at is = (
+  span kinds.Open (after_space whole at) (after_space whole at + 1),
+  mark_next whole at 123 kinds.Open (λ start rest. token_at-open start 123 rest refl) is,
+  refl,
+)
 
 -- where the byte of a closing brace is next, the next token is one
 pub close_next : (whole : List ℕ) (at : ℕ) → next_is 125 whole at ≡ true
     → (t : Lexeme) × (next_from whole at ≡ Ok t) × (t.kind ≡ kinds.Close)
-close_next whole at is = (span kinds.Close (after_space whole at) (after_space whole at + 1), mark_next whole at 125 kinds.Close (λ start rest. token_at-close start 125 rest refl) is, refl)
+close_next whole at is = (
+  span kinds.Close (after_space whole at) (after_space whole at + 1),
+  mark_next whole at 125 kinds.Close (λ start rest. token_at-close start 125 rest refl) is,
+  refl,
+)
 
 -- where the byte of a comma is next, the next token is one
 pub comma_next : (whole : List ℕ) (at : ℕ) → next_is 44 whole at ≡ true
     → (t : Lexeme) × (next_from whole at ≡ Ok t) × (t.kind ≡ kinds.Comma)
-comma_next whole at is = (span kinds.Comma (after_space whole at) (after_space whole at + 1), mark_next whole at 44 kinds.Comma (λ start rest. token_at-comma start 44 rest refl) is, refl)
+comma_next whole at is = (
+  span kinds.Comma (after_space whole at) (after_space whole at + 1),
+  mark_next whole at 44 kinds.Comma (λ start rest. token_at-comma start 44 rest refl) is,
+  refl,
+)
 
 -- a text, or one that isn't closed
 pub data TextNext (whole : List ℕ) (at : ℕ) : Type 0 where
@@ -206,7 +220,10 @@ unclosed_first start c rest p apart is =
 module _ (kind : Token) (mark : 0 < byte_of kind) (whole : List ℕ) (at : ℕ) where
   -- where the byte that tokens of a kind begin with isn't next, no token of this kind is next
   pub not_next : next_is (byte_of kind) whole at ≡ false → NotNext kind whole at
-  not_next is = record { token = λ t next same. token t next same (next_begins_not (byte_of kind) whole at is); unclosed = λ p next same. unclosed p next same (next_begins_not (byte_of kind) whole at is) }
+  not_next is = record {
+    token = λ t next same. token t next same (next_begins_not (byte_of kind) whole at is);
+    unclosed = λ p next same. unclosed p next same (next_begins_not (byte_of kind) whole at is);
+  }
     where
       token : (t : Lexeme) → next_from whole at ≡ Ok t → t.kind ≡ kind → BeginsNot (byte_of kind) whole at → ⊥
       token t next same (ended none) =
@@ -217,7 +234,8 @@ module _ (kind : Token) (mark : 0 < byte_of kind) (whole : List ℕ) (at : ℕ) 
           omega (arith, clash)
       token t next same (other c rest apart begins) =
           let s = token_at-sound (after_space whole at) (c ∷ rest) t (sym (next_is_at whole at (c ∷ rest) begins) ∙ next) in
-          apart (first_byte kind s.len c rest (drop s.len (c ∷ rest)) mark (subst (λ k. IsToken k (take s.len (c ∷ rest)) (drop s.len (c ∷ rest))) same s.token))
+          apart (first_byte kind s.len c rest (drop s.len (c ∷ rest)) mark
+          (subst (λ k. IsToken k (take s.len (c ∷ rest)) (drop s.len (c ∷ rest))) same s.token))
 
       unclosed : (p : ℕ) → next_from whole at ≡ Err (lexing.Unclosed p) → kind ≡ kinds.Text
           → BeginsNot (byte_of kind) whole at → ⊥

@@ -13,7 +13,8 @@ use Rattle.def_fraction.specs.Reading.{read_as_literal, read_as_whole}
 use Rattle.def_fraction.proofs.JudgeLemmas.{read_as_literal-judged}
 use Rattle.def_file.specs.declared.FileFault.{FileFault}
 use Rattle.def_file.specs.declared.FileFault.TheVariants.{Number}
-use Rattle.def_file.specs.Reading.{◌>>=◌, is_kind, is_token, token_where, bytes_at, number_or_fault, number_at, literal_at, whole_at, from_one, read_as_set, set_number_at}
+use Rattle.def_file.specs.Reading.{◌>>=◌, is_kind, is_token, token_where, bytes_at, number_or_fault, number_at, literal_at, whole_at, from_one, read_as_set}
+use Rattle.def_file.specs.Reading.{set_number_at}
 use Rattle.def_file_form.specs.Form.{Spelled, number, IsWholeNumber, IsFraction, spelled_at}
 use Rattle.def_file_form.proofs.SoundParts.{set_ok}
 use Rattle.def_file_form.proofs.TokenByToken.{is_kind-true, token_ok}
@@ -80,8 +81,15 @@ pub one_set_number : OneToken IsSetNumber (NumberFits wholes_from_one)
 unfolding read_as_set
 one_set_number = record {
   to = λ n ss rest is.
-      let w = is.0 in
-      (number w.digits, w.spelling, (w.digits, ap fault_of (from_one_some (read_as_whole w.digits) n (whole_reads w.digits n w.numeral w.value w.limit) is.1), refl));
+      let w = is.0 in (
+        number w.digits,
+        w.spelling,
+        (
+          w.digits,
+          ap fault_of (from_one_some (read_as_whole w.digits) n (whole_reads w.digits n w.numeral w.value w.limit) is.1),
+          refl,
+        ),
+      );
   back = λ s fits.
       let found = fault_none (from_one (read_as_whole fits.0)) fits.1 in
       let n = set_ok fits.0 found.0 found.1 in
@@ -93,7 +101,8 @@ one_set_number = record {
 module _ {A : Type 0} (R : A → List Spelled → List Spelled → Type 0) (numbers : NumberKind)
     (one : OneToken R (NumberFits numbers)) where
   number_begins : BeginsPassing HasWord (Part R) (λ s. is_kind kinds.Number s.kind)
-  number_begins = one_begins R (NumberFits numbers) one (λ s. is_kind kinds.Number s.kind) (number (codes "1")) (codes "1", each_takes_one numbers, refl) (λ u fits. ap (λ (s : Spelled). is_kind kinds.Number s.kind) fits.2)
+  number_begins = one_begins R (NumberFits numbers) one (λ s. is_kind kinds.Number s.kind) (number (codes "1")) (codes "1", each_takes_one numbers, refl)
+      (λ u fits. ap (λ (s : Spelled). is_kind kinds.Number s.kind) fits.2)
 
   takes_numbers : (T : List Spelled → Type 0) → HasWord T → TakesNumbers (Part R T) [] numbers
   takes_numbers T word bytes = (
@@ -117,8 +126,13 @@ module _ {A : Type 0} (R : A → List Spelled → List Spelled → Type 0) (numb
           within = grown.1;
           grows = omega (arith, grown.0);
           along = λ P walk T word there.
-              let fits : NumberFits numbers (spelled_at whole t) = (bytes_at whole t, faults (bytes_at whole t) ∙ ap fault_of ok, ap (λ k. record { kind = k; bytes = bytes_at whole t }) (sym is)) in
-              walk.step (Part R T) at t step (walk.alike (After (spelled_at whole t) (Part R T)) T t.end (one_alike R (NumberFits numbers) one (spelled_at whole t) fits T) there);
+              let fits : NumberFits numbers (spelled_at whole t) = (
+                bytes_at whole t,
+                faults (bytes_at whole t) ∙ ap fault_of ok,
+                ap (λ k. record { kind = k; bytes = bytes_at whole t }) (sym is),
+              ) in
+              walk.step (Part R T) at t step (walk.alike (After (spelled_at whole t) (Part R T)) T t.end
+              (one_alike R (NumberFits numbers) one (spelled_at whole t) fits T) there);
         })
     numbered_goes t next is (Err why) bad = goes_stuck 1 HasWord (Part R) whole at (Number t.start why) (λ T word. record {
       tokens = [];
@@ -144,7 +158,8 @@ module _ {A : Type 0} (R : A → List Spelled → List Spelled → Type 0) (numb
         found (Ok t) is =
             let ok = token_ok (is_token kinds.Number whole) whole at t is in
             numbered_goes t ok.0 (is_kind-true kinds.Number t.kind ok.1) (read (bytes_at whole t)) refl
-        found (Err d) is = goes_stuck 1 HasWord (Part R) whole at d (λ T word. token_fault HasWord (Part R) (λ s. is_kind kinds.Number s.kind) number_test number_begins whole at T word d is)
+        found (Err d) is = goes_stuck 1 HasWord (Part R) whole at d (λ T word. token_fault HasWord (Part R) (λ s. is_kind kinds.Number s.kind) number_test
+            number_begins whole at T word d is)
 
 -- reading a literal goes along its token, or is stuck there
 pub literal_goes : (whole : List ℕ) (at : ℕ) → at ≤ length whole

@@ -13,7 +13,8 @@ use Rattle.def_file.specs.declared.FileFault.{FileFault}
 use Rattle.def_file.specs.declared.FileFault.TheVariants.{Syntax, UnexpectedEnd, Number}
 use Rattle.def_file.specs.Reading.{bytes_at, read_as_set}
 use Rattle.def_file_form.specs.Form.{Spelled, number, spelled_at}
-use Rattle.def_file_form.specs.Offends.{AreNext, NumberKind, wholes, wholes_from_one, literals, literal_fault, IsFront, TakesNumbers, IsUnfit, IsNumberFault, Stops, Offends, EndsWhole}
+use Rattle.def_file_form.specs.Offends.{AreNext, NumberKind, wholes, wholes_from_one, literals, literal_fault, IsFront, TakesNumbers, IsUnfit, IsNumberFault}
+use Rattle.def_file_form.specs.Offends.{Stops, Offends, EndsWhole}
 use Rattle.def_file_form.proofs.Languages.{Halt, Stuck, halt_stops}
 use Rattle.def_file_form.proofs.OneTokenParts.{each_takes_one}
 
@@ -29,7 +30,13 @@ record GoesOn (whole : List ℕ) (place : ℕ) (shorter longer : List Spelled) :
 
 more_on : (whole : List ℕ) (place : ℕ) (s : Spelled) (shorter longer : List Spelled) → GoesOn whole place shorter longer
     → GoesOn whole place (s ∷ shorter) (s ∷ longer)
-more_on whole place s shorter longer on = record { token = on.token; next = on.next; not_end = on.not_end; rest = on.rest; longer_is = ap (λ x. s ∷ x) on.longer_is }
+more_on whole place s shorter longer on = record {
+  token = on.token;
+  next = on.next;
+  not_end = on.not_end;
+  rest = on.rest;
+  longer_is = ap (λ x. s ∷ x) on.longer_is;
+}
 
 -- they are one, or one goes on behind the other
 data Compared (whole : List ℕ) (ss ts : List Spelled) (p q : ℕ) : Type 0 where
@@ -117,7 +124,8 @@ number_token : (L : List Spelled → Type 0) (whole : List ℕ) (ss : List Spell
     → next_from whole place ≡ Ok t → IsFront L (ss ++ spelled_at whole t ∷ []) → ⊥
 number_token L whole ss place at why n t next front =
     let same : t ≡ n.token = token_once whole place t n.token next n.next in
-    let spelled : spelled_at whole t ≡ number (bytes_at whole n.token) = ap (spelled_at whole) same ∙ ap (λ k. record { kind = k; bytes = bytes_at whole n.token }) n.is_number in
+    let spelled : spelled_at whole t ≡ number (bytes_at whole n.token) = ap (spelled_at whole) same
+    ∙ ap (λ k. record { kind = k; bytes = bytes_at whole n.token }) n.is_number in
     let none = (n.needed (bytes_at whole n.token)).0 (subst (λ s. IsFront L (ss ++ s ∷ [])) spelled front) in
     let clash : None ≡ Some why = sym none ∙ n.has_fault in
     cc
@@ -196,7 +204,8 @@ pub one_offence : (L : List Spelled → Type 0) (whole : List ℕ) (at : ℕ) (f
 one_offence L whole at f g a b =
     elim (compared whole at a.tokens b.tokens a.place b.place a.before b.before) [
       | same_place same place ↦
-          causes_once L whole b.tokens b.place f g (subst (λ ss. Cause L whole ss b.place f) same (subst (λ n. Cause L whole a.tokens n f) place (cause_of L whole a.tokens a.place f a.stop))) (cause_of L whole b.tokens b.place g b.stop)
+          causes_once L whole b.tokens b.place f g (subst (λ ss. Cause L whole ss b.place f) same
+          (subst (λ n. Cause L whole a.tokens n f) place (cause_of L whole a.tokens a.place f a.stop))) (cause_of L whole b.tokens b.place g b.stop)
       | second_goes_on on ↦ absurd (goes_no_stop L whole a.place a.tokens b.tokens f on b.front a.stop)
       | first_goes_on on ↦ absurd (goes_no_stop L whole b.place b.tokens a.tokens g on a.front b.stop)
     ]

@@ -1,5 +1,6 @@
 -- Parts of one token, and the name that may be absent.
-use Rattle.std.proofs.Common.{◌≡◌, ◌≢◌, ℕ, ◌≤◌, Bool, true, false, cond, List, [], ◌∷◌, ◌++◌, length, Option, Some, None, Ok, Err, sym, refl, ap, ◌∙◌, subst, arith}
+use Rattle.std.proofs.Common.{◌≡◌, ◌≢◌, ℕ, ◌≤◌, Bool, true, false, cond, List, [], ◌∷◌, ◌++◌, length, Option, Some, None, Ok, Err, sym, refl, ap, ◌∙◌, subst}
+use Rattle.std.proofs.Common.{arith}
 use Rattle.std.specs.Prelude.{codes}
 use Rattle.def_file_tokens.specs.declared.Token.{Token}
 use Rattle.def_file_tokens.specs.declared.Token.TheVariants as kinds
@@ -114,12 +115,15 @@ pub text_goes : (whole : List ℕ) (at : ℕ) → at ≤ length whole → Goes 1
 unfolding text_at
 text_goes whole at within =
     goes_token HasWord (Part IsText) (λ s. is_kind kinds.Text s.kind) (kind_test kinds.Text (λ clash. cc) (λ clash. cc))
-    (one_begins IsText TextFits one_text (λ s. is_kind kinds.Text s.kind) (text []) ([], no_inside, refl) (λ u fits. ap (λ (s : Spelled). is_kind kinds.Text s.kind) fits.2))
+    (one_begins IsText TextFits one_text (λ s. is_kind kinds.Text s.kind) (text []) ([], no_inside, refl)
+    (λ u fits. ap (λ (s : Spelled). is_kind kinds.Text s.kind) fits.2))
     whole at (λ token. Ok (token_text whole token, token.end)) within
     (λ t step passes inner. goes_past 0 HasWord (λ T. After (spelled_at whole t) (Part IsText T)) whole t.end (token_text whole t, t.end) (record {
       within = inner;
       grows = omega arith;
-      along = λ P walk T word there. walk.alike (After (spelled_at whole t) (Part IsText T)) T t.end (one_alike IsText TextFits one_text (spelled_at whole t) (text_fits whole at within t step.next (sym (is_kind-true kinds.Text t.kind passes))) T) there;
+      along = λ P walk T word there. walk.alike (After (spelled_at whole t) (Part IsText T)) T t.end
+          (one_alike IsText TextFits one_text (spelled_at whole t) (text_fits whole at within t step.next (sym (is_kind-true kinds.Text t.kind passes))) T)
+          there;
     }))
 
 -- what follows has a word, and begins with no token of a kind
@@ -138,7 +142,11 @@ name_but T = record { to = λ ss fits l. to ss fits l.0 l.1 l.2 l.3; back = λ s
 
 name_after : (T : List Spelled → Type 0) → NoFirst kinds.Text T → (s : Spelled) → TextFits s
     → Alike (After s (Part IsName T)) T
-name_after T none s fits = record { to = λ ss l. to ss l.0 l.1 l.2 l.3; back = λ ss there. (Some (unescaped fits.0), ss, record { inside = fits.0; is_inside = fits.1; stands_for = refl; spelling = ap (λ u. u ∷ ss) fits.2 }, there) }
+name_after T none s fits = record {
+  to = λ ss l. to ss l.0 l.1 l.2 l.3;
+  back = λ ss there.
+      (Some (unescaped fits.0), ss, record { inside = fits.0; is_inside = fits.1; stands_for = refl; spelling = ap (λ u. u ∷ ss) fits.2 }, there);
+}
   where
     to : (ss : List Spelled) (v : Option (List ℕ)) (rest : List Spelled) → IsName v (s ∷ ss) rest → T rest → T ss
     to ss None rest is there = absurd (none.apart s ss (subst T (sym is) there) (ap (λ (u : Spelled). u.kind) fits.2))
@@ -169,7 +177,9 @@ name_goes whole at within = chosen (next_is mark whole at) refl
         (goes_past 0 (NoFirst kinds.Text) (Part IsName) whole at (Some (token_text whole t), t.end) (record {
           within = grown.1;
           grows = omega (arith, grown.0);
-          along = λ P walk T none there. walk.step (Part IsName T) at t step (walk.alike (After (spelled_at whole t) (Part IsName T)) T t.end (name_after T none (spelled_at whole t) (text_fits whole at within t next is)) there);
+          along = λ P walk T none there. walk.step (Part IsName T) at t step
+              (walk.alike (After (spelled_at whole t) (Part IsName T)) T t.end (name_after T none (spelled_at whole t) (text_fits whole at within t next is))
+              there);
         }))
     given (unclosed p next) =
         subst (λ r. Goes 0 (NoFirst kinds.Text) (Part IsName) whole at (r >>= λ text. Ok (Some text.0, text.1))) (sym (text_at_unclosed whole at p next))
@@ -178,7 +188,14 @@ name_goes whole at within = chosen (next_is mark whole at) refl
           place = at;
           before = refl;
           front = (none.word.0, (None, none.word.0, refl, none.word.1));
-          halt = Halt.no_mark p refl next (λ l. ([], no_inside, (none.word.0, (name_after T none (text []) ([], no_inside, refl)).back none.word.0 none.word.1)));
+          halt = Halt.no_mark p refl next (λ l. (
+            [],
+            no_inside,
+            (
+              none.word.0,
+              (name_after T none (text []) ([], no_inside, refl)).back none.word.0 none.word.1,
+            ),
+          ));
         }))
 
     chosen : (b : Bool) → next_is mark whole at ≡ b
@@ -187,5 +204,6 @@ name_goes whole at within = chosen (next_is mark whole at) refl
     chosen false is = goes_past 0 (NoFirst kinds.Text) (Part IsName) whole at (None, at) (record {
       within = within;
       grows = omega arith;
-      along = λ P walk T none there. walk.other kinds.Text (λ clash. cc) (Part IsName T) T at (name_but T) (not_next kinds.Text (omega arith) whole at is) there;
+      along = λ P walk T none there. walk.other kinds.Text (λ clash. cc) (Part IsName T) T at (name_but T) (not_next kinds.Text (omega arith) whole at is)
+          there;
     })

@@ -1,9 +1,11 @@
 -- Lists of payoffs.
-use Rattle.std.proofs.Common.{◌≡◌, ℕ, zero, suc, ◌+◌, ◌≤◌, Bool, true, false, cond, List, [], ◌∷◌, ◌++◌, length, Option, Some, None, Result, Ok, sym, refl, ap, ◌∙◌, subst, arith, ◌⊎◌, inl, inr}
+use Rattle.std.proofs.Common.{◌≡◌, ℕ, zero, suc, ◌+◌, ◌≤◌, Bool, true, false, cond, List, [], ◌∷◌, ◌++◌, length, Option, Some, None, Result, Ok, sym, refl, ap}
+use Rattle.std.proofs.Common.{◌∙◌, subst, arith, ◌⊎◌, inl, inr}
 use Rattle.def_file_tokens.specs.declared.Token.TheVariants as kinds
 use Rattle.def_fraction.specs.Fraction.{Fraction}
 use Rattle.def_file.specs.declared.FileFault.{FileFault}
-use Rattle.def_file.specs.Reading.{◌>>=◌, is_kind, is_token, token_where, next_is, open_byte, close_byte, comma_byte, literal_at, close_at, payoff_at, payoffs_from, payoffs_at}
+use Rattle.def_file.specs.Reading.{◌>>=◌, is_kind, is_token, token_where, next_is, open_byte, close_byte, comma_byte, literal_at, close_at, payoff_at}
+use Rattle.def_file.specs.Reading.{payoffs_from, payoffs_at}
 use Rattle.def_file_form.specs.Form.{Spelled, number, open_brace, close_brace, comma, IsFraction, AreMorePayoffs, ArePayoffs, IsPayoffList}
 use Rattle.def_file_form.proofs.TokenByToken.{ok_token, comma_step}
 use Rattle.def_file_form.proofs.Languages.{Alike, AlikeBut, FirstIsOther, After}
@@ -62,16 +64,19 @@ payoff_goes [] whole at within = literal_goes whole at within
 payoff_goes (d ∷ ds) whole at within = chosen (next_is comma_byte whole at) refl
   where
     chosen : (b : Bool) → next_is comma_byte whole at ≡ b
-        → Goes 1 HasWord (PayoffIn (d ∷ ds)) whole at (cond b (token_where (is_token kinds.Comma whole) whole at >>= λ token. Ok token.end) (Ok at) >>= λ start. literal_at whole start)
+        → Goes 1 HasWord (PayoffIn (d ∷ ds)) whole at (cond b (token_where (is_token kinds.Comma whole) whole at >>= λ token. Ok token.end) (Ok at) >>= λ start.
+        literal_at whole start)
     chosen true is =
         let m = comma_mark whole at within is in
         let inner = (step_grows whole at within m.t m.step).1 in
         subst (λ r. Goes 1 HasWord (PayoffIn (d ∷ ds)) whole at ((r >>= λ token. Ok token.end) >>= λ start. literal_at whole start)) (sym m.read)
         (goes_step HasWord (PayoffIn (d ∷ ds)) whole at within m.t m.step (literal_at whole m.t.end)
         (subst (λ u. Goes 0 HasWord (λ T. After u (PayoffIn (d ∷ ds) T)) whole m.t.end (literal_at whole m.t.end)) (sym m.spelled)
-        (goes_alike 0 HasWord HasWord (Part IsFraction) (λ T. After comma (Parted (Part IsFraction T))) whole m.t.end (literal_at whole m.t.end) (λ T w. w) (λ T w. parted_after T)
+        (goes_alike 0 HasWord HasWord (Part IsFraction) (λ T. After comma (Parted (Part IsFraction T))) whole m.t.end (literal_at whole m.t.end) (λ T w. w)
+        (λ T w. parted_after T)
         (goes_less 1 0 HasWord (Part IsFraction) whole m.t.end _ (omega arith) (literal_goes whole m.t.end inner)))))
-    chosen false is = goes_other 1 kinds.Comma (λ clash. cc) HasWord (Part IsFraction) (PayoffIn (d ∷ ds)) whole at (literal_at whole at) (λ T w. parted_but (Part IsFraction T)) (not_next kinds.Comma (omega arith) whole at is) (literal_goes whole at within)
+    chosen false is = goes_other 1 kinds.Comma (λ clash. cc) HasWord (Part IsFraction) (PayoffIn (d ∷ ds)) whole at (literal_at whole at)
+        (λ T w. parted_but (Part IsFraction T)) (not_next kinds.Comma (omega arith) whole at is) (literal_goes whole at within)
 
 no_number_closes : (f : Fraction) (ss rest : List Spelled) → IsFraction f (close_brace ∷ ss) rest → ⊥
 no_number_closes f ss rest is =
@@ -108,7 +113,10 @@ payoffs_closed (d ∷ ds) T = record { to = λ ss l. to ss l.0 l.1 l.2 l.3; back
 
 payoffs_but : (done : List Fraction) (T : List Spelled → Type 0)
     → AlikeBut kinds.Close (Part (Behind done) T) (PayoffIn done (Part AreMorePayoffs T))
-payoffs_but [] T = record { to = λ ss fits l. to ss fits l.0 l.1 l.2 l.3; back = λ ss l. let later = l.3 in (l.0 ∷ later.0, later.1, (l.1, l.2, later.2), later.3) }
+payoffs_but [] T = record {
+  to = λ ss fits l. to ss fits l.0 l.1 l.2 l.3;
+  back = λ ss l. let later = l.3 in (l.0 ∷ later.0, later.1, (l.1, l.2, later.2), later.3);
+}
   where
     to : (ss : List Spelled) → FirstIsOther kinds.Close ss → (v : List Fraction) (rest : List Spelled)
         → ArePayoffs v ss rest → T rest → Part IsFraction (Part AreMorePayoffs T) ss
@@ -158,17 +166,22 @@ payoffs_goes : (left : ℕ) (done : List Fraction) (whole : List ℕ) (at : ℕ)
 unfolding payoffs_from
 payoffs_goes zero done whole at within left_is = spent HasWord (Part (Behind done)) whole at within left_is (payoffs_word done) (λ T word. payoffs_open done T)
 payoffs_goes (suc left) done whole at within left_is =
-    chosen (next_is close_byte whole at) refl (λ payoff inner grown. payoffs_goes left (done ++ payoff.0 ∷ []) whole payoff.1 inner (omega (arith, grown, left_is)))
+    chosen (next_is close_byte whole at) refl (λ payoff inner grown. payoffs_goes left (done ++ payoff.0 ∷ []) whole payoff.1 inner
+    (omega (arith, grown, left_is)))
   where
     chosen : (b : Bool) → next_is close_byte whole at ≡ b
         → ((payoff : Fraction × ℕ) → payoff.1 ≤ length whole → at + 1 ≤ payoff.1
         → Goes 1 HasWord (Part (Behind (done ++ payoff.0 ∷ []))) whole payoff.1 (payoffs_from left (done ++ payoff.0 ∷ []) whole payoff.1))
-        → Goes 1 HasWord (Part (Behind done)) whole at (cond b (close_at done whole at) (payoff_at done whole at >>= λ payoff. payoffs_from left (done ++ payoff.0 ∷ []) whole payoff.1))
+        → Goes 1 HasWord (Part (Behind done)) whole at (cond b (close_at done whole at)
+        (payoff_at done whole at >>= λ payoff. payoffs_from left (done ++ payoff.0 ∷ []) whole payoff.1))
     chosen true is again = close_goes done HasWord (Part (Behind done)) whole at within is (λ T word. payoffs_closed done T)
     chosen false is again =
-        goes_other 1 kinds.Close (λ clash. cc) HasWord (λ T. PayoffIn done (Part AreMorePayoffs T)) (Part (Behind done)) whole at _ (λ T word. payoffs_but done T) (not_next kinds.Close (omega arith) whole at is)
-        (goes_then 1 HasWord HasWord (PayoffIn done) (Part AreMorePayoffs) whole at (payoff_at done whole at) _ (payoff_goes done whole at within) (λ T word. (close_brace ∷ word.0, ([], word.0, refl, word.1)))
-        (λ payoff e inner grown. goes_less 1 0 HasWord (Part AreMorePayoffs) whole payoff.1 _ (omega arith) (more_goes done payoff.0 whole payoff.1 _ (again payoff inner grown))))
+        goes_other 1 kinds.Close (λ clash. cc) HasWord (λ T. PayoffIn done (Part AreMorePayoffs T)) (Part (Behind done)) whole at _
+        (λ T word. payoffs_but done T) (not_next kinds.Close (omega arith) whole at is)
+        (goes_then 1 HasWord HasWord (PayoffIn done) (Part AreMorePayoffs) whole at (payoff_at done whole at) _ (payoff_goes done whole at within)
+        (λ T word. (close_brace ∷ word.0, ([], word.0, refl, word.1)))
+        (λ payoff e inner grown. goes_less 1 0 HasWord (Part AreMorePayoffs) whole payoff.1 _ (omega arith)
+        (more_goes done payoff.0 whole payoff.1 _ (again payoff inner grown))))
 
 payoff_list_after : (T : List Spelled → Type 0) → NoFirst kinds.Open T
     → Alike (After open_brace (Part IsPayoffList T)) (Part ArePayoffs T)
@@ -196,13 +209,17 @@ unfolding payoffs_at
 payoff_list_goes whole at within = chosen (next_is open_byte whole at) refl
   where
     chosen : (b : Bool) → next_is open_byte whole at ≡ b
-        → Goes 0 (NoFirst kinds.Open) (Part IsPayoffList) whole at (cond b (token_where (is_token kinds.Open whole) whole at >>= λ opening. (payoffs_from (length whole) [] whole opening.end >>= λ payoffs. Ok (Some payoffs.0, payoffs.1))) (Ok (None, at)))
+        → Goes 0 (NoFirst kinds.Open) (Part IsPayoffList) whole at (cond b
+        (token_where (is_token kinds.Open whole) whole at >>= λ opening.
+        (payoffs_from (length whole) [] whole opening.end >>= λ payoffs. Ok (Some payoffs.0, payoffs.1))) (Ok (None, at)))
     chosen true is =
         goes_less 1 0 (NoFirst kinds.Open) (Part IsPayoffList) whole at _ (omega arith)
-        (list_goes (NoFirst kinds.Open) (Part ArePayoffs) (Part IsPayoffList) whole at within is (λ mid. payoffs_from (length whole) [] whole mid) (λ payoffs. Some payoffs.0) (λ T f. f.word) payoff_list_after
+        (list_goes (NoFirst kinds.Open) (Part ArePayoffs) (Part IsPayoffList) whole at within is (λ mid. payoffs_from (length whole) [] whole mid)
+        (λ payoffs. Some payoffs.0) (λ T f. f.word) payoff_list_after
         (λ mid inner. payoffs_goes (length whole) [] whole mid inner (omega arith)))
     chosen false is = goes_past 0 (NoFirst kinds.Open) (Part IsPayoffList) whole at (None, at) (record {
       within = within;
       grows = omega arith;
-      along = λ P walk T f there. walk.other kinds.Open (λ clash. cc) (Part IsPayoffList T) T at (payoff_list_but T) (not_next kinds.Open (omega arith) whole at is) there;
+      along = λ P walk T f there. walk.other kinds.Open (λ clash. cc) (Part IsPayoffList T) T at (payoff_list_but T)
+          (not_next kinds.Open (omega arith) whole at is) there;
     })

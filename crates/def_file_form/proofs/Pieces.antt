@@ -19,7 +19,8 @@ end_is : (whole : List ℕ) (at : ℕ) (l : Lexeme) → at ≤ length whole → 
 end_is whole at l within next same =
     let is = next_from-sound whole at within l next in
     let token : IsToken kinds.End (bytes_at whole l) (drop l.end whole) = subst (λ k. IsToken k (bytes_at whole l) (drop l.end whole)) (sym same) is.token in
-    let none : length (bytes_at whole l) ≡ l.end - l.start = length-take-le (l.end - l.start) (drop l.start whole) (omega (arith, length-drop l.start whole, is.order, is.within)) in
+    let none : length (bytes_at whole l) ≡ l.end - l.start = length-take-le (l.end - l.start) (drop l.start whole)
+    (omega (arith, length-drop l.start whole, is.order, is.within)) in
     let ends : l.end ≡ length whole = omega (arith, length-drop l.end whole, ap length token.1, is.within) in
     let starts : l.start ≡ length whole = omega (arith, none, ap length token.0, is.order, ends) in
     (λ i. span (sym same i) (starts i) (ends i))
@@ -52,10 +53,13 @@ spelled_pieces whole at (p ∷ ps) rest same =
     let after = bytes_of ps rest in
     let start = at + length p.space in
     let end = start + length p.bytes in
-    let behind : drop start whole ≡ p.bytes ++ after = sym (drop-drop (length p.space) at whole) ∙ ap (drop (length p.space)) same ∙ drop_at p.space (p.bytes ++ after) (length p.space) refl in
-    let last : drop end whole ≡ after = sym (drop-drop (length p.bytes) start whole) ∙ ap (drop (length p.bytes)) behind ∙ drop_at p.bytes after (length p.bytes) refl in
+    let behind : drop start whole ≡ p.bytes ++ after = sym (drop-drop (length p.space) at whole) ∙ ap (drop (length p.space)) same
+    ∙ drop_at p.space (p.bytes ++ after) (length p.space) refl in
+    let last : drop end whole ≡ after = sym (drop-drop (length p.bytes) start whole) ∙ ap (drop (length p.bytes)) behind
+    ∙ drop_at p.bytes after (length p.bytes) refl in
     let len : end - start ≡ length p.bytes = omega arith in
-    let here : slice_range whole start end ≡ p.bytes = ap (λ n. take n (drop start whole)) len ∙ ap (take (length p.bytes)) behind ∙ take_at p.bytes after (length p.bytes) refl in
+    let here : slice_range whole start end ≡ p.bytes = ap (λ n. take n (drop start whole)) len ∙ ap (take (length p.bytes)) behind
+    ∙ take_at p.bytes after (length p.bytes) refl in
     ap (λ (b : List ℕ). record { kind = p.kind; bytes = b } ∷ map (spelled_at whole) (lexemes_of end ps)) here
     ∙ ap (λ x. spelled p ∷ x) (spelled_pieces whole end ps rest last)
 
@@ -94,4 +98,8 @@ pub ahead_pieces : (whole : List ℕ) (ps : List Piece) (rest : List ℕ) → Ar
     → Ahead whole 0 (map spelled ps)
 ahead_pieces whole ps rest are same =
     subst (Ahead whole 0) (spelled_pieces whole 0 ps rest same)
-    (record { within = omega arith; next = all_read whole 0 (lexemes_of 0 ps) (omega arith) (subst (λ w. Reads w 0 (lexemes_of 0 ps)) (sym same) (reads_pieces [] rest ps are)) })
+    (record {
+      within = omega arith;
+      next = all_read whole 0 (lexemes_of 0 ps) (omega arith)
+          (subst (λ w. Reads w 0 (lexemes_of 0 ps)) (sym same) (reads_pieces [] rest ps are));
+    })

@@ -1,5 +1,6 @@
 -- The fault with which reading stops is the first.
-use Rattle.std.proofs.Common.{◌≡◌, ◌≢◌, ℕ, zero, suc, ◌+◌, ◌<◌, ◌≤◌, Bool, true, false, cond, List, [], ◌∷◌, ◌++◌, length, Option, Some, None, Result, Ok, Err, sym, refl, ap, ◌∙◌, subst, arith, length-append}
+use Rattle.std.proofs.Common.{◌≡◌, ◌≢◌, ℕ, zero, suc, ◌+◌, ◌<◌, ◌≤◌, Bool, true, false, cond, List, [], ◌∷◌, ◌++◌, length, Option, Some, None, Result, Ok, Err}
+use Rattle.std.proofs.Common.{sym, refl, ap, ◌∙◌, subst, arith, length-append}
 use Rattle.std.specs.Prelude.{nat_eq, unwrap_or}
 use Rattle.std.proofs.lemmas.Bool.{eqb-true, eqb-false}
 use Rattle.def_file_tokens.specs.declared.Token.TheVariants as kinds
@@ -17,7 +18,8 @@ use Rattle.def_file.specs.Content.{Prologue, Record, Contents, no_contents}
 use Rattle.def_tree.specs.Rules.{most_nodes}
 use Rattle.def_file.specs.Faults.{record_fault}
 use Rattle.def_file.specs.Adding.{with_record, node_with}
-use Rattle.def_file.specs.Reading.{◌>>=◌, is_kind, name_at, checked_names, nth_name, prologue_at, entry_at, unless_fault, judged, entries_from, trailing, nothing_at, game_at, PrologueHead, head_at, behind_head}
+use Rattle.def_file.specs.Reading.{◌>>=◌, is_kind, name_at, checked_names, nth_name, prologue_at, entry_at, unless_fault, judged, entries_from, trailing}
+use Rattle.def_file.specs.Reading.{nothing_at, game_at, PrologueHead, head_at, behind_head}
 use Rattle.def_file.specs.Entries.{contents_of}
 use Rattle.def_file.proofs.OneMore.{one_more}
 use Rattle.def_file_form.specs.Form.{IsEntry}
@@ -26,11 +28,13 @@ use Rattle.def_file.proofs.EntryFaults.{entry_fault_is_first_broken}
 use Rattle.def_file.proofs.NoFault.{nothing_at_fault, no_fault_more, entries_limit}
 use Rattle.def_file_form.proofs.Entries.{judged_ok}
 use Rattle.def_file_form.proofs.SoundEntries.{IsPrologueHead, two_names}
-use Rattle.def_file_form.specs.First.{IsHeadTokens, IsEntryTokens, IsHeadUpTo, IsEntryFrom, AreEntriesFrom, IsPrologueUpTo, IsReadUpTo, FirstFault, in_head, in_players, in_comment, in_entry, in_rules, behind_tree}
+use Rattle.def_file_form.specs.First.{IsHeadTokens, IsEntryTokens, IsHeadUpTo, IsEntryFrom, AreEntriesFrom, IsPrologueUpTo, IsReadUpTo, FirstFault, in_head}
+use Rattle.def_file_form.specs.First.{in_players, in_comment, in_entry, in_rules, behind_tree}
 use Rattle.def_file_form.proofs.Languages.{offends}
 use Rattle.def_file_form.proofs.NextByteTellsToken.{token_first_byte}
 use Rattle.def_file_form.proofs.Heads.{prologue_is}
-use Rattle.def_file_form.proofs.TokensOfReadParts.{WholeRead, entry_stuck, entry_whole, entry_from, comment_stuck, comment_whole, comment_from, head_stuck, head_whole, head_up_to}
+use Rattle.def_file_form.proofs.TokensOfReadParts.{WholeRead, entry_stuck, entry_whole, entry_from, comment_stuck, comment_whole, comment_from, head_stuck}
+use Rattle.def_file_form.proofs.TokensOfReadParts.{head_whole, head_up_to}
 
 -- one reading after another that gives a fault
 pub bind_err : {A B G : Type 0} (r : Result A FileFault) (f : A → Result B FileFault) (fault : FileFault)
@@ -66,23 +70,43 @@ module _ (whole : List ℕ) (head : PrologueHead × ℕ)
   two_head count = subst (λ ns. IsHeadUpTo whole head.0.0 ns head.1) (two_names head.0.1 count) (head_up_to whole head.0.0 head.0.1 head.1 w)
 
   behind_two : checked_names head.0.1 head.1 ≡ Ok head.1
-      → behind_head whole head ≡ (name_at whole head.1 >>= λ comment. Ok (record { title = head.0.0; one = nth_name head.0.1 0; two = nth_name head.0.1 1; comment = unwrap_or comment.0 [] }, comment.1))
+      → behind_head whole head ≡ (name_at whole head.1 >>= λ comment. Ok (
+        record
+            { title = head.0.0; one = nth_name head.0.1 0; two = nth_name head.0.1 1; comment = unwrap_or comment.0 [] },
+        comment.1,
+      ))
   unfolding behind_head
-  behind_two is = ap (λ r. r >>= λ behind. (name_at whole behind >>= λ comment. Ok (record { title = head.0.0; one = nth_name head.0.1 0; two = nth_name head.0.1 1; comment = unwrap_or comment.0 [] }, comment.1))) is
+  behind_two is = ap (λ r. r >>= λ behind. (name_at whole behind >>= λ comment. Ok
+      (record { title = head.0.0; one = nth_name head.0.1 0; two = nth_name head.0.1 1; comment = unwrap_or comment.0 [] }, comment.1))) is
 
   behind_others : checked_names head.0.1 head.1 ≡ Err (Players (length head.0.1))
       → behind_head whole head ≡ Err (Players (length head.0.1))
   unfolding behind_head
-  behind_others is = ap (λ r. r >>= λ behind. (name_at whole behind >>= λ comment. Ok (record { title = head.0.0; one = nth_name head.0.1 0; two = nth_name head.0.1 1; comment = unwrap_or comment.0 [] }, comment.1))) is
+  behind_others is = ap (λ r. r >>= λ behind. (name_at whole behind >>= λ comment. Ok
+      (record { title = head.0.0; one = nth_name head.0.1 0; two = nth_name head.0.1 1; comment = unwrap_or comment.0 [] }, comment.1))) is
 
   behind_fault : (fault : FileFault) → behind_head whole head ≡ Err fault → FirstFault whole fault
   behind_fault fault e = elim (checked head.0.1 head.1) [
     | others count is ↦
         let same : Players (length head.0.1) ≡ fault = let both = sym (behind_others is) ∙ e in cc in
-        in_players (record { title = head.0.0; names = head.0.1; end = head.1; head = head_up_to whole head.0.0 head.0.1 head.1 w; count = count; fault_is = sym same })
+        in_players (record {
+          title = head.0.0;
+          names = head.0.1;
+          end = head.1;
+          head = head_up_to whole head.0.0 head.0.1 head.1 w;
+          count = count;
+          fault_is = sym same;
+        })
     | two count is ↦
         bind_err (name_at whole head.1) _ fault (sym (behind_two is) ∙ e)
-        (λ bad. in_comment (record { title = head.0.0; one = nth_name head.0.1 0; two = nth_name head.0.1 1; end = head.1; head = two_head count; offends = offends _ whole head.1 fault (comment_stuck whole head.1 w.within fault bad) }))
+        (λ bad. in_comment (record {
+          title = head.0.0;
+          one = nth_name head.0.1 0;
+          two = nth_name head.0.1 1;
+          end = head.1;
+          head = two_head count;
+          offends = offends _ whole head.1 fault (comment_stuck whole head.1 w.within fault bad);
+        }))
         (λ comment ok none. absurd cc)
   ]
 
@@ -125,7 +149,8 @@ read_more whole p rs at r end read some is none = record {
   prologue = read.prologue;
   entries = entries_more whole read.behind at rs r end read.entries is;
   no_fault = no_fault_more rs r read.no_fault none;
-  begins = subst (λ (c : Contents). Begins 1 c.nodes) (sym (one_more rs r)) (Begins-append 1 (contents_of rs).nodes (node_with (contents_of rs) r ∷ []) read.begins (some, tt));
+  begins = subst (λ (c : Contents). Begins 1 c.nodes) (sym (one_more rs r))
+      (Begins-append 1 (contents_of rs).nodes (node_with (contents_of rs) r ∷ []) read.begins (some, tt));
 }
 
 judged_err : (contents : Contents) (r : Record) (fault : FileFault) → judged contents r ≡ Err fault
@@ -157,17 +182,20 @@ module _ (whole : List ℕ) (p : Prologue) (most : ℕ) (most_is : most ≡ most
   unfolding entries_from
   entries_answer zero rs contents at known within read fuel = let limit = entries_limit most most_is rs read.no_fault in absurd (omega (arith, limit, fuel))
   entries_answer (suc left) rs contents at known within read fuel =
-      chosen (nat_eq (wanted 1 contents.nodes) 0) refl (λ r end inner next known more. entries_answer left (rs ++ r ∷ []) next end known inner more (omega (arith, fuel, length-append rs (r ∷ []))))
+      chosen (nat_eq (wanted 1 contents.nodes) 0) refl (λ r end inner next known more. entries_answer left (rs ++ r ∷ []) next end known inner more
+      (omega (arith, fuel, length-append rs (r ∷ []))))
     where
       Again : Type 0
-      Again = (r : Record) (end : ℕ) → end ≤ length whole → (next : Contents) → next ≡ contents_of (rs ++ r ∷ []) → IsReadUpTo whole p (rs ++ r ∷ []) end → AnswersEntries whole p (entries_from left next whole end)
+      Again = (r : Record) (end : ℕ) → end ≤ length whole → (next : Contents) → next ≡ contents_of (rs ++ r ∷ []) → IsReadUpTo whole p (rs ++ r ∷ []) end
+          → AnswersEntries whole p (entries_from left next whole end)
 
       judge : 0 < wanted 1 (contents_of rs).nodes → (x : Record × ℕ) → WholeRead IsEntryTokens IsEntry whole at x.0 x.1
           → (j : Result Contents FileFault) → judged contents x.0 ≡ j → Again
           → AnswersEntries whole p (j >>= λ next. entries_from left next whole x.1)
       judge some x w (Ok next) is again =
           let ok = judged_ok contents x.0 next is in
-          again x.0 x.1 w.within next (ok.1 ∙ ap (λ c. with_record c x.0) known ∙ sym (one_more rs x.0)) (read_more whole p rs at x.0 x.1 read some (entry_from whole at x.0 x.1 w) (ap (λ c. record_fault c x.0) (sym known) ∙ ok.0))
+          again x.0 x.1 w.within next (ok.1 ∙ ap (λ c. with_record c x.0) known ∙ sym (one_more rs x.0))
+          (read_more whole p rs at x.0 x.1 read some (entry_from whole at x.0 x.1 w) (ap (λ c. record_fault c x.0) (sym known) ∙ ok.0))
       judge some x w (Err fault) is again = in_rules (record {
         prologue = p;
         entries = rs;
@@ -183,11 +211,24 @@ module _ (whole : List ℕ) (p : Prologue) (most : ℕ) (most_is : most ≡ most
       entry : 0 < wanted 1 (contents_of rs).nodes → (e : Result (Record × ℕ) FileFault) → entry_at whole at ≡ e → Again
           → AnswersEntries whole p (e >>= λ x. judged contents x.0 >>= λ next. entries_from left next whole x.1)
       entry some (Ok x) is again = judge some x (entry_whole whole at within x is) (judged contents x.0) refl again
-      entry some (Err fault) is again = in_entry (record { prologue = p; entries = rs; end = at; read = read; open_tree = λ none. omega (arith, some, none); offends = offends _ whole at fault (entry_stuck whole at within fault is) })
+      entry some (Err fault) is again = in_entry (record {
+        prologue = p;
+        entries = rs;
+        end = at;
+        read = read;
+        open_tree = λ none. omega (arith, some, none);
+        offends = offends _ whole at fault (entry_stuck whole at within fault is);
+      })
 
       chosen : (b : Bool) → nat_eq (wanted 1 contents.nodes) 0 ≡ b → Again
           → AnswersEntries whole p (cond b (Ok (contents, at)) (entry_at whole at >>= λ x. judged contents x.0 >>= λ next. entries_from left next whole x.1))
-      chosen true is again = record { entries = rs; read = read; whole_tree = ap (λ (c : Contents). wanted 1 c.nodes) (sym known) ∙ eqb-true _ 0 is; known = known; within = within }
+      chosen true is again = record {
+        entries = rs;
+        read = read;
+        whole_tree = ap (λ (c : Contents). wanted 1 c.nodes) (sym known) ∙ eqb-true _ 0 is;
+        known = known;
+        within = within;
+      }
       chosen false is again =
           let none : wanted 1 contents.nodes ≢ 0 = eqb-false _ 0 is in
           let same : wanted 1 contents.nodes ≡ wanted 1 (contents_of rs).nodes = ap (λ (c : Contents). wanted 1 c.nodes) known in
@@ -220,7 +261,12 @@ nothing_fault whole at within fault e = by_next (next_from whole at) refl e
         → cond b (Ok l.end) (Err (TrailingText l.start)) ≡ Err fault
         → (place : ℕ) × IsFirstByteFrom whole at place × (fault ≡ TrailingText place)
     chosen l true is next e = absurd cc
-    chosen l false is next e = (l.start, token_first_byte whole at within l (record { next = next; not_end = λ ends. let clash : true ≡ false = sym (ap (is_kind kinds.End) ends) ∙ is in cc }), cc)
+    chosen l false is next e = (
+      l.start,
+      token_first_byte whole at within l
+          (record { next = next; not_end = λ ends. let clash : true ≡ false = sym (ap (is_kind kinds.End) ends) ∙ is in cc }),
+      cc,
+    )
 
     by_next : (r : Result Lexeme LexFault) → next_from whole at ≡ r → trailing r ≡ Err fault
         → (place : ℕ) × IsFirstByteFrom whole at place × (fault ≡ TrailingText place)
@@ -239,5 +285,6 @@ fault_first whole fault e =
     (λ body ok e.
     let a : AllRead whole head.0 body = answered whole head.0 _ (Ok body) ok (tree_answer whole head.0 head.1 w) in
     bind_err (nothing_at whole body.1) _ fault e
-    (λ bad. let n = nothing_fault whole body.1 a.within fault bad in behind_tree (record { prologue = head.0; entries = a.entries; end = body.1; read = a.read; whole_tree = a.whole_tree; place = n.0; byte = n.1; fault_is = n.2 }))
+    (λ bad. let n = nothing_fault whole body.1 a.within fault bad in behind_tree
+    (record { prologue = head.0; entries = a.entries; end = body.1; read = a.read; whole_tree = a.whole_tree; place = n.0; byte = n.1; fault_is = n.2 }))
     (λ end ok e. absurd cc)))

@@ -1,5 +1,6 @@
 -- What is read of an entry and of the prologue is in the form.
-use Rattle.std.proofs.Common.{◌≡◌, ℕ, zero, suc, ◌≤◌, Bool, true, false, cond, ◌||◌, List, [], ◌∷◌, ◌++◌, length, Ok, Err, sym, refl, ap, ◌∙◌, subst, arith, append_assoc, append-nil, ◌⊎◌, inl, inr}
+use Rattle.std.proofs.Common.{◌≡◌, ℕ, zero, suc, ◌≤◌, Bool, true, false, cond, ◌||◌, List, [], ◌∷◌, ◌++◌, length, Ok, Err, sym, refl, ap, ◌∙◌, subst, arith}
+use Rattle.std.proofs.Common.{append_assoc, append-nil, ◌⊎◌, inl, inr}
 use Rattle.std.specs.Prelude.{codes, nat_eq, unwrap_or}
 use Rattle.std.proofs.lemmas.Bool.{eqb-true}
 use Rattle.def_file_tokens.specs.declared.Token.TheVariants as kinds
@@ -9,9 +10,13 @@ use Rattle.def_file.specs.declared.EntryKind.{EntryKind}
 use Rattle.def_file.specs.declared.EntryKind.TheVariants.{Chance, Personal, Leaf}
 use Rattle.def_file.specs.declared.FileFault.TheVariants.{Players}
 use Rattle.def_file.specs.Content.{Prologue, Record, no_set_mention}
-use Rattle.def_file.specs.Reading.{◌>>=◌, is_token, is_exact, is_numbers, begins_entry, token_where, next_is, close_byte, text_at, name_at, whole_at, close_at, set_mention_at, outcome_mention_at, chance_entry_at, personal_entry_at, terminal_entry_at, entry_at, names_from, checked_names, nth_name, PrologueHead, head_at, behind_head, prologue_at}
-use Rattle.def_file_form.specs.Form.{Spelled, word, number, open_brace, IsText, IsName, IsWholeNumber, IsSet, IsOutcome, IsEntryAs, IsEntry, AreNames, IsHead, IsPrologue}
-use Rattle.def_file_form.proofs.TokenByToken.{then_ok, either, token_ok, StepSpelled, Read, Then, IsOne, read_as, read_one, read_then, exact_here, exact_step, open_step}
+use Rattle.def_file.specs.Reading.{◌>>=◌, is_token, is_exact, is_numbers, begins_entry, token_where, next_is, close_byte, text_at, name_at, whole_at, close_at}
+use Rattle.def_file.specs.Reading.{set_mention_at, outcome_mention_at, chance_entry_at, personal_entry_at, terminal_entry_at, entry_at, names_from}
+use Rattle.def_file.specs.Reading.{checked_names, nth_name, PrologueHead, head_at, behind_head, prologue_at}
+use Rattle.def_file_form.specs.Form.{Spelled, word, number, open_brace, IsText, IsName, IsWholeNumber, IsSet, IsOutcome, IsEntryAs, IsEntry, AreNames, IsHead}
+use Rattle.def_file_form.specs.Form.{IsPrologue}
+use Rattle.def_file_form.proofs.TokenByToken.{then_ok, either, token_ok, StepSpelled, Read, Then, IsOne, read_as, read_one, read_then, exact_here, exact_step}
+use Rattle.def_file_form.proofs.TokenByToken.{open_step}
 use Rattle.def_file_form.proofs.SoundParts.{text_read, name_read, whole_read, close_read, ItemsRead, set_mention_read, outcome_mention_read}
 
 -- an entry behind its word
@@ -53,8 +58,22 @@ personal_entry_read whole at within read e =
     let placed = read_then whole player.1 set.1 outcome.1 (IsSet Personal set.0) (IsOutcome outcome.0) s2 s3 in
     let moved = read_then whole name.1 player.1 outcome.1 (IsWholeNumber player.0) (Then (IsSet Personal set.0) (IsOutcome outcome.0)) s1 placed in
     subst (λ (r : Record × ℕ). Read whole at r.1 (IsEntryBehind Personal (codes "p") r.0)) same
-    (read_as whole at outcome.1 (Then (IsText name.0) (Then (IsWholeNumber player.0) (Then (IsSet Personal set.0) (IsOutcome outcome.0)))) (IsEntryBehind Personal (codes "p") entry)
-    (λ tokens rest t. (refl, record { headed = tokens; named = t.0; moved = t.2.0; placed = t.2.2.0; head = refl; name = t.1; player = t.2.1; set = t.2.2.1; outcome = t.2.2.2 }))
+    (read_as whole at outcome.1 (Then (IsText name.0) (Then (IsWholeNumber player.0) (Then (IsSet Personal set.0) (IsOutcome outcome.0))))
+    (IsEntryBehind Personal (codes "p") entry)
+    (λ tokens rest t. (
+      refl,
+      record {
+        headed = tokens;
+        named = t.0;
+        moved = t.2.0;
+        placed = t.2.2.0;
+        head = refl;
+        name = t.1;
+        player = t.2.1;
+        set = t.2.2.1;
+        outcome = t.2.2.2;
+      },
+    ))
     (read_then whole at name.1 outcome.1 (IsText name.0) (Then (IsWholeNumber player.0) (Then (IsSet Personal set.0) (IsOutcome outcome.0))) s0 moved))))))
 
 pub terminal_entry_read : (whole : List ℕ) (at : ℕ) → at ≤ length whole → (read : Record × ℕ)
@@ -201,7 +220,8 @@ head_read whole at within x e =
     let r5 = read_then whole title.1 opening.end names.1 (IsOne open_brace) Names (read_one whole title.1 opening open_brace s4) texts in
     let r4 = read_then whole numbers.end title.1 names.1 (IsText title.0) Titled s3 r5 in
     let r3 = read_then whole version.end numbers.end names.1 (IsOne s2.0) Headed (read_one whole version.end numbers s2.0 s2.2) r4 in
-    let r2 = read_then whole marker.end version.end names.1 (IsOne (number (codes "2"))) Numbered (read_one whole marker.end version (number (codes "2")) s1) r3 in
+    let r2 = read_then whole marker.end version.end names.1 (IsOne (number (codes "2"))) Numbered (read_one whole marker.end version (number (codes "2")) s1)
+    r3 in
     let r1 = read_then whole at marker.end names.1 (IsOne (word (codes "EFG"))) Version (read_one whole at marker (word (codes "EFG")) s0) r2 in
     subst (λ (y : PrologueHead × ℕ). Read whole at y.1 (IsPrologueHead y.0)) same
     (read_as whole at names.1 (Then (IsOne (word (codes "EFG"))) Version) (IsPrologueHead (title.0, names.0)) (λ tokens rest one.
@@ -234,7 +254,8 @@ prologue_read whole at within read e =
     let one = nth_name head.0.1 0 in
     let two = nth_name head.0.1 1 in
     let h2 : Read whole at behind (IsPrologueHead (head.0.0, one ∷ two ∷ [])) =
-    subst (λ n. Read whole at n (IsPrologueHead (head.0.0, one ∷ two ∷ []))) c.1 (subst (λ ns. Read whole at head.1 (IsPrologueHead (head.0.0, ns))) (two_names head.0.1 c.0) h) in
+    subst (λ n. Read whole at n (IsPrologueHead (head.0.0, one ∷ two ∷ []))) c.1
+    (subst (λ ns. Read whole at head.1 (IsPrologueHead (head.0.0, ns))) (two_names head.0.1 c.0) h) in
     let remark = name_read whole behind h2.within comment e2 in
     let p : Prologue = record { title = head.0.0; one = one; two = two; comment = unwrap_or comment.0 [] } in
     let same : (p, comment.1) ≡ read = cc in

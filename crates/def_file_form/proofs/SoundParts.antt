@@ -1,5 +1,6 @@
 -- What is read is in the form: each reading with the tokens that it took.
-use Rattle.std.proofs.Common.{◌≡◌, ℕ, zero, suc, ◌≤◌, Bool, true, false, cond, List, [], ◌∷◌, ◌++◌, length, Option, Some, None, Result, Ok, Err, sym, refl, ap, ◌∙◌, subst, arith, append_assoc, append-nil, ◌⊎◌, inl, inr}
+use Rattle.std.proofs.Common.{◌≡◌, ℕ, zero, suc, ◌≤◌, Bool, true, false, cond, List, [], ◌∷◌, ◌++◌, length, Option, Some, None, Result, Ok, Err, sym, refl, ap}
+use Rattle.std.proofs.Common.{◌∙◌, subst, arith, append_assoc, append-nil, ◌⊎◌, inl, inr}
 use Rattle.std.specs.Prelude.{nat_le}
 use Rattle.std.proofs.lemmas.Bool.{leb-true}
 use Rattle.def_file_tokens.specs.declared.Token.TheVariants as kinds
@@ -13,9 +14,13 @@ use Rattle.def_fraction.proofs.JudgeLemmas.{read_as_literal-judged}
 use Rattle.def_file.specs.declared.EntryKind.{EntryKind}
 use Rattle.def_file.specs.declared.EntryKind.TheVariants.{Chance, Personal, Leaf}
 use Rattle.def_file.specs.Content.{Action, SetMention, OutcomeMention}
-use Rattle.def_file.specs.Reading.{◌>>=◌, bytes_at, is_token, token_where, next_is, mark, open_byte, close_byte, comma_byte, token_text, text_at, name_at, number_or_fault, number_at, literal_at, whole_at, from_one, read_as_set, set_number_at, chance_at, action_at, close_at, actions_from, actions_at, comma_at, payoff_at, payoffs_from, payoffs_at, set_mention_at, outcome_mention_at}
-use Rattle.def_file_form.specs.Form.{Spelled, number, text, open_brace, close_brace, comma, IsText, IsName, IsWholeNumber, IsFraction, IsChance, AreActionsUpTo, IsActionList, AreMorePayoffs, ArePayoffs, IsPayoffList, IsSet, IsOutcome}
-use Rattle.def_file_form.proofs.TokenByToken.{then_ok, Read, Then, IsOne, IsNone, read_as, read_one, read_none, read_then, open_step, close_step, comma_step, text_step, number_step}
+use Rattle.def_file.specs.Reading.{◌>>=◌, bytes_at, is_token, token_where, next_is, mark, open_byte, close_byte, comma_byte, token_text, text_at, name_at}
+use Rattle.def_file.specs.Reading.{number_or_fault, number_at, literal_at, whole_at, from_one, read_as_set, set_number_at, chance_at, action_at, close_at}
+use Rattle.def_file.specs.Reading.{actions_from, actions_at, comma_at, payoff_at, payoffs_from, payoffs_at, set_mention_at, outcome_mention_at}
+use Rattle.def_file_form.specs.Form.{Spelled, number, text, open_brace, close_brace, comma, IsText, IsName, IsWholeNumber, IsFraction, IsChance, AreActionsUpTo}
+use Rattle.def_file_form.specs.Form.{IsActionList, AreMorePayoffs, ArePayoffs, IsPayoffList, IsSet, IsOutcome}
+use Rattle.def_file_form.proofs.TokenByToken.{then_ok, Read, Then, IsOne, IsNone, read_as, read_one, read_none, read_then, open_step, close_step, comma_step}
+use Rattle.def_file_form.proofs.TokenByToken.{text_step, number_step}
 
 -- what is read as a text is one, and stands for the bytes that were read
 pub text_read : (whole : List ℕ) (at : ℕ) → at ≤ length whole → (read : List ℕ × ℕ) → text_at whole at ≡ Ok read
@@ -26,7 +31,8 @@ text_read whole at within read e =
     let s = text_step whole at within token e0 in
     let same : (token_text whole token, token.end) ≡ read = cc in
     subst (λ (r : List ℕ × ℕ). Read whole at r.1 (IsText r.0)) same
-    (read_as whole at token.end (IsOne (text s.0)) (IsText (token_text whole token)) (λ tokens rest one. record { inside = s.0; is_inside = s.1; stands_for = s.3; spelling = one }) (read_one whole at token (text s.0) s.2)))
+    (read_as whole at token.end (IsOne (text s.0)) (IsText (token_text whole token))
+    (λ tokens rest one. record { inside = s.0; is_inside = s.1; stands_for = s.3; spelling = one }) (read_one whole at token (text s.0) s.2)))
 
 -- what is read as a name is a text, or nothing where none was read
 pub name_read : (whole : List ℕ) (at : ℕ) → at ≤ length whole → (read : Option (List ℕ) × ℕ)
@@ -64,7 +70,8 @@ number_read as_read whole at within read e =
     record {
       bytes = bytes_at whole token;
       ok = found.0;
-      taken = subst (λ n. Read whole at n (IsOne (number (bytes_at whole token)))) found.1 (read_one whole at token (number (bytes_at whole token)) (number_step whole at within token e0));
+      taken = subst (λ n. Read whole at n (IsOne (number (bytes_at whole token)))) found.1
+          (read_one whole at token (number (bytes_at whole token)) (number_step whole at within token e0));
     })
 
 pub literal_read : (whole : List ℕ) (at : ℕ) → at ≤ length whole → (read : Fraction × ℕ) → literal_at whole at ≡ Ok read
@@ -72,7 +79,8 @@ pub literal_read : (whole : List ℕ) (at : ℕ) → at ≤ length whole → (re
 unfolding literal_at
 literal_read whole at within read e =
     let r = number_read read_as_literal whole at within read e in
-    read_as whole at read.1 (IsOne (number r.bytes)) (IsFraction read.0) (λ tokens rest one. record { bytes = r.bytes; literal = ((read_as_literal-judged r.bytes).value read.0).0 r.ok; spelling = one }) r.taken
+    read_as whole at read.1 (IsOne (number r.bytes)) (IsFraction read.0) (λ tokens rest one.
+    record { bytes = r.bytes; literal = ((read_as_literal-judged r.bytes).value read.0).0 r.ok; spelling = one }) r.taken
 
 -- a whole number's bytes
 whole_ok : (bytes : List ℕ) (n : ℕ) (tokens rest : List Spelled) → read_as_whole bytes ≡ Ok n
@@ -119,10 +127,12 @@ pub chance_read : (kind : EntryKind) (whole : List ℕ) (at : ℕ) → at ≤ le
 chance_read Chance whole at within read e = literal_read whole at within read e
 chance_read Personal whole at within read e =
     let same : (zero_fraction, at) ≡ read = cc in
-    subst (λ (r : Fraction × ℕ). Read whole at r.1 (IsChance Personal r.0)) same (read_as whole at at IsNone (IsChance Personal zero_fraction) (λ tokens rest none. (refl, none)) (read_none whole at within))
+    subst (λ (r : Fraction × ℕ). Read whole at r.1 (IsChance Personal r.0)) same
+    (read_as whole at at IsNone (IsChance Personal zero_fraction) (λ tokens rest none. (refl, none)) (read_none whole at within))
 chance_read Leaf whole at within read e =
     let same : (zero_fraction, at) ≡ read = cc in
-    subst (λ (r : Fraction × ℕ). Read whole at r.1 (IsChance Leaf r.0)) same (read_as whole at at IsNone (IsChance Leaf zero_fraction) (λ tokens rest none. (refl, none)) (read_none whole at within))
+    subst (λ (r : Fraction × ℕ). Read whole at r.1 (IsChance Leaf r.0)) same
+    (read_as whole at at IsNone (IsChance Leaf zero_fraction) (λ tokens rest none. (refl, none)) (read_none whole at within))
 
 -- Lists.
 
@@ -147,8 +157,11 @@ pub close_read : {A : Type 0} (value : A) (whole : List ℕ) (at : ℕ) → at �
 unfolding close_at
 close_read value whole at within read e =
     then_ok (token_where (is_token kinds.Close whole) whole at) _ _ e (λ token e0 e.
-    let same : (value, token.end) ≡ read = cc in
-    (ap (λ r. r.0) (sym same), subst (λ n. Read whole at n (IsOne close_brace)) (ap (λ r. r.1) same) (read_one whole at token close_brace (close_step whole at within token e0))))
+    let same : (value, token.end) ≡ read = cc in (
+      ap (λ r. r.0) (sym same),
+      subst (λ n. Read whole at n (IsOne close_brace)) (ap (λ r. r.1) same)
+          (read_one whole at token close_brace (close_step whole at within token e0)),
+    ))
 
 -- items that were read behind those that were done
 pub record ItemsRead {A : Type 0} (Are : List A → List Spelled → List Spelled → Type 0) (done : List A)
@@ -181,7 +194,8 @@ actions_read kind (suc left) done whole at within read e =
         record {
           more = action.0 ∷ later.more;
           all = later.all ∙ append_assoc done (action.0 ∷ []) later.more;
-          taken = read_as whole at read.1 (Then (IsAction kind action.0) (AreActionsUpTo kind later.more)) (AreActionsUpTo kind (action.0 ∷ later.more)) (λ tokens rest both. (both.1.0, both.0, both.1.1, both.1.2, both.2))
+          taken = read_as whole at read.1 (Then (IsAction kind action.0) (AreActionsUpTo kind later.more)) (AreActionsUpTo kind (action.0 ∷ later.more))
+              (λ tokens rest both. (both.1.0, both.0, both.1.1, both.1.2, both.2))
               (read_then whole at action.1 read.1 (IsAction kind action.0) (AreActionsUpTo kind later.more) here later.taken);
         })
 
@@ -192,7 +206,8 @@ unfolding actions_at
 action_list_read kind whole at within read e = chosen (next_is open_byte whole at) e
   where
     chosen : (b : Bool)
-        → cond b (token_where (is_token kinds.Open whole) whole at >>= λ opening. actions_from kind (length whole) [] whole opening.end >>= λ actions. Ok (Some actions.0, actions.1)) (Ok (None, at)) ≡ Ok read
+        → cond b (token_where (is_token kinds.Open whole) whole at >>= λ opening. actions_from kind (length whole) [] whole opening.end >>= λ actions. Ok
+        (Some actions.0, actions.1)) (Ok (None, at)) ≡ Ok read
         → Read whole at read.1 (IsActionList kind read.0)
     chosen true e =
         then_ok (token_where (is_token kinds.Open whole) whole at) _ _ e (λ opening e0 e.
@@ -231,8 +246,10 @@ comma_read (d ∷ ds) whole at within read e = chosen (next_is comma_byte whole 
     chosen true e =
         then_ok (token_where (is_token kinds.Comma whole) whole at) _ _ e (λ token e0 e.
         let same : token.end ≡ read = cc in
-        subst (λ n. Read whole at n MayPart) same (read_as whole at token.end (IsOne comma) MayPart (λ tokens rest one. inr one) (read_one whole at token comma (comma_step whole at within token e0))))
-    chosen false e = let same : at ≡ read = cc in subst (λ n. Read whole at n MayPart) same (read_as whole at at IsNone MayPart (λ tokens rest none. inl none) (read_none whole at within))
+        subst (λ n. Read whole at n MayPart) same (read_as whole at token.end (IsOne comma) MayPart (λ tokens rest one. inr one)
+        (read_one whole at token comma (comma_step whole at within token e0))))
+    chosen false e = let same : at ≡ read = cc in subst (λ n. Read whole at n MayPart) same
+        (read_as whole at at IsNone MayPart (λ tokens rest none. inl none) (read_none whole at within))
 
 -- a payoff behind those that are done
 abbrev pub IsPayoff : List Fraction → Fraction → List Spelled → List Spelled → Type 0
@@ -274,7 +291,12 @@ payoffs_read (suc left) done whole at within read e =
         → ItemsRead (ArePayoffsBehind done) done whole at read
     chosen true e again =
         let closed = close_read done whole at within read e in
-        record { more = []; all = closed.0 ∙ sym (append-nil done); taken = read_as whole at read.1 (IsOne close_brace) (ArePayoffsBehind done []) (no_more done) closed.1 }
+        record {
+          more = [];
+          all = closed.0 ∙ sym (append-nil done);
+          taken = read_as whole at read.1 (IsOne close_brace) (ArePayoffsBehind done [])
+              (no_more done) closed.1;
+        }
     chosen false e again =
         then_ok (payoff_at done whole at) _ _ e (λ payoff e0 e.
         let here = payoff_read done whole at within payoff e0 in
@@ -282,7 +304,8 @@ payoffs_read (suc left) done whole at within read e =
         record {
           more = payoff.0 ∷ later.more;
           all = later.all ∙ append_assoc done (payoff.0 ∷ []) later.more;
-          taken = read_as whole at read.1 (Then (IsPayoff done payoff.0) (ArePayoffsBehind (done ++ payoff.0 ∷ []) later.more)) (ArePayoffsBehind done (payoff.0 ∷ later.more)) (payoff_more done payoff.0 later.more)
+          taken = read_as whole at read.1 (Then (IsPayoff done payoff.0) (ArePayoffsBehind (done ++ payoff.0 ∷ []) later.more))
+              (ArePayoffsBehind done (payoff.0 ∷ later.more)) (payoff_more done payoff.0 later.more)
               (read_then whole at payoff.1 read.1 (IsPayoff done payoff.0) (ArePayoffsBehind (done ++ payoff.0 ∷ []) later.more) here later.taken);
         })
 
@@ -292,7 +315,8 @@ unfolding payoffs_at
 payoff_list_read whole at within read e = chosen (next_is open_byte whole at) e
   where
     chosen : (b : Bool)
-        → cond b (token_where (is_token kinds.Open whole) whole at >>= λ opening. payoffs_from (length whole) [] whole opening.end >>= λ payoffs. Ok (Some payoffs.0, payoffs.1)) (Ok (None, at)) ≡ Ok read
+        → cond b (token_where (is_token kinds.Open whole) whole at >>= λ opening. payoffs_from (length whole) [] whole opening.end >>= λ payoffs. Ok
+        (Some payoffs.0, payoffs.1)) (Ok (None, at)) ≡ Ok read
         → Read whole at read.1 (IsPayoffList read.0)
     chosen true e =
         then_ok (token_where (is_token kinds.Open whole) whole at) _ _ e (λ opening e0 e.

@@ -23,14 +23,16 @@ HasWord L = (ss : List Spelled) × L ss
 -- behind it, for those T that may follow.
 
 -- what was read up to an offset
-pub record Past (least : ℕ) (Follows : (List Spelled → Type 0) → Type 0) (In : (List Spelled → Type 0) → List Spelled → Type 0) (whole : List ℕ) (at end : ℕ) : Type 1 where
+pub record Past (least : ℕ) (Follows : (List Spelled → Type 0) → Type 0) (In : (List Spelled → Type 0) → List Spelled → Type 0) (whole : List ℕ)
+    (at end : ℕ) : Type 1 where
   pub within : end ≤ length whole
   pub grows : at + least ≤ end
   pub along : (P : (List Spelled → Type 0) → ℕ → Type 0) → Walk whole P → (T : List Spelled → Type 0) → Follows T
       → P T end → P (In T) at
 
 -- a reading goes along the language, with so many bytes at least, or is stuck in it
-pub record Goes {A : Type 0} (least : ℕ) (Follows : (List Spelled → Type 0) → Type 0) (In : (List Spelled → Type 0) → List Spelled → Type 0) (whole : List ℕ) (at : ℕ) (r : Result (A × ℕ) FileFault) : Type 1 where
+pub record Goes {A : Type 0} (least : ℕ) (Follows : (List Spelled → Type 0) → Type 0) (In : (List Spelled → Type 0) → List Spelled → Type 0) (whole : List ℕ)
+    (at : ℕ) (r : Result (A × ℕ) FileFault) : Type 1 where
   pub past : (x : A × ℕ) → r ≡ Ok x → Past least Follows In whole at x.1
   pub stuck : (fault : FileFault) → r ≡ Err fault → (T : List Spelled → Type 0) → Follows T
       → Stuck (In T) whole at fault
@@ -117,7 +119,12 @@ pub goes_other : {A : Type 0} (least : ℕ) (kind : Token) → kind ≢ kinds.Nu
 goes_other least kind not_number F In On whole at r but apart go = record {
   past = λ x e.
       let p = go.past x e in
-      record { within = p.within; grows = p.grows; along = λ P walk T g there. walk.other kind not_number (On T) (In T) at (but T g) apart (p.along P walk T g there) };
+      record {
+        within = p.within;
+        grows = p.grows;
+        along = λ P walk T g there. walk.other kind not_number (On T) (In T) at (but T g) apart
+            (p.along P walk T g there);
+      };
   stuck = λ fault e T g. (stuck_walk whole fault).other kind not_number (On T) (In T) at (but T g) apart (go.stuck fault e T g);
 }
 
@@ -131,7 +138,11 @@ goes_step F In whole at within t step r go =
     record {
       past = λ x e.
           let q = go.past x e in
-          record { within = q.within; grows = omega (arith, grown.0, q.grows); along = λ P walk T g there. walk.step (In T) at t step (q.along P walk T g there) };
+          record {
+            within = q.within;
+            grows = omega (arith, grown.0, q.grows);
+            along = λ P walk T g there. walk.step (In T) at t step (q.along P walk T g there);
+          };
       stuck = λ fault e T g. (stuck_walk whole fault).step (In T) at t step (go.stuck fault e T g);
     }
 
@@ -160,7 +171,8 @@ module _ (F : (List Spelled → Type 0) → Type 0) (In : (List Spelled → Type
   unfinished l = begins.first T [] follows l
 
   taken : (s : Spelled) → test s ≡ false → IsFront (In T) (s ∷ []) → ⊥
-  taken s fails front = let passes : test s ≡ true = begins.first T (s ∷ front.0) follows front.1 in absurd (let clash : true ≡ false = sym passes ∙ fails in cc)
+  taken s fails front = let passes : test s ≡ true = begins.first T (s ∷ front.0) follows front.1 in absurd
+      (let clash : true ≡ false = sym passes ∙ fails in cc)
 
   here : (fault : FileFault) → Halt (In T) whole [] at fault → Stuck (In T) whole at fault
   here fault halt = record { tokens = []; place = at; before = refl; front = begins.word T follows; halt = halt }
@@ -187,8 +199,10 @@ module _ (F : (List Spelled → Type 0) → Type 0) (In : (List Spelled → Type
           → Stuck (In T) whole at fault
       tested true is e = absurd cc
       tested false is e = let same : unfit t ≡ fault = cc in subst (Stuck (In T) whole at) same (unfit_here t (is_kind kinds.End t.kind) refl next is)
-  fault_here (Err (lexing.Syntax p)) fault next e = let same : Syntax p ≡ fault = cc in subst (Stuck (In T) whole at) same (here (Syntax p) (Halt.bad_byte p refl unfinished next))
-  fault_here (Err (lexing.Unclosed p)) fault next e = let same : UnexpectedEnd ≡ fault = cc in subst (Stuck (In T) whole at) same (here UnexpectedEnd (Halt.no_mark p refl next (λ l. absurd (unfinished l))))
+  fault_here (Err (lexing.Syntax p)) fault next e = let same : Syntax p ≡ fault = cc in subst (Stuck (In T) whole at) same
+      (here (Syntax p) (Halt.bad_byte p refl unfinished next))
+  fault_here (Err (lexing.Unclosed p)) fault next e = let same : UnexpectedEnd
+      ≡ fault = cc in subst (Stuck (In T) whole at) same (here UnexpectedEnd (Halt.no_mark p refl next (λ l. absurd (unfinished l))))
 
   -- where only tokens that pass the test come first, reading is stuck with the fault that comes instead of one
   pub token_fault : (fault : FileFault) → token_where (λ t. test (spelled_at whole t)) whole at ≡ Err fault

@@ -1,5 +1,6 @@
 -- Reading token by token: what each test of a token says, and the tokens that a reading takes.
-use Rattle.std.proofs.Common.{◌≡◌, ◌≢◌, ℕ, ◌≤◌, Bool, true, false, cond, ◌||◌, List, [], ◌∷◌, ◌++◌, length, drop, Result, Ok, Err, sym, refl, ap, ◌∙◌, subst, ◌⊎◌, inl, inr, append_assoc}
+use Rattle.std.proofs.Common.{◌≡◌, ◌≢◌, ℕ, ◌≤◌, Bool, true, false, cond, ◌||◌, List, [], ◌∷◌, ◌++◌, length, drop, Result, Ok, Err, sym, refl, ap, ◌∙◌, subst}
+use Rattle.std.proofs.Common.{◌⊎◌, inl, inr, append_assoc}
 use Rattle.std.specs.Prelude.{codes}
 use Rattle.std.specs.Cmp.Lexicographic.{same_text}
 use Rattle.std.proofs.lemmas.Bool.{and_parts}
@@ -153,7 +154,8 @@ module _ (whole : List ℕ) (at : ℕ) (at_within : at ≤ length whole) (l : Le
       → next_from whole at ≡ Ok l → kind ≡ l.kind → StepSpelled whole at l (record { kind = kind; bytes = bytes })
   mark_here kind bytes not_end fixed next same =
       let is = next_from-sound whole at at_within l next in
-      respell kind _ bytes (fixed (bytes_at whole l) (drop l.end whole) (subst (λ k. IsToken k (bytes_at whole l) (drop l.end whole)) (sym same) is.token)) (step_of kind not_end next same)
+      respell kind _ bytes (fixed (bytes_at whole l) (drop l.end whole) (subst (λ k. IsToken k (bytes_at whole l) (drop l.end whole)) (sym same) is.token))
+      (step_of kind not_end next same)
 
   mark_step : (kind : Token) (bytes : List ℕ) → kind ≢ kinds.End → ((b a : List ℕ) → IsToken kind b a → b ≡ bytes)
       → token_where (is_token kind whole) whole at ≡ Ok l
@@ -195,4 +197,5 @@ module _ (whole : List ℕ) (at : ℕ) (at_within : at ≤ length whole) (l : Le
   -- where a number is read, the next token is a number, spelled by the bytes it stands on
   pub number_step : token_where (is_token kinds.Number whole) whole at ≡ Ok l
       → StepSpelled whole at l (number (bytes_at whole l))
-  number_step e = let found = token_ok (is_token kinds.Number whole) whole at l e in step_of kinds.Number (λ clash. cc) found.0 (is_kind-true kinds.Number l.kind found.1)
+  number_step e = let found = token_ok (is_token kinds.Number whole) whole at l e in step_of kinds.Number (λ clash. cc) found.0
+      (is_kind-true kinds.Number l.kind found.1)

@@ -1,5 +1,6 @@
 -- All tokens that come from an offset on, and the bytes by which an optional part or the end of a list is seen.
-use Rattle.std.proofs.Common.{◌≡◌, ◌≢◌, ℕ, zero, suc, ◌+◌, ◌-◌, ◌<◌, ◌≤◌, Bool, true, false, ◌&&◌, List, [], ◌∷◌, length, take, drop, Some, Result, Ok, sym, refl, ap, ◌∙◌, subst, arith, length-drop}
+use Rattle.std.proofs.Common.{◌≡◌, ◌≢◌, ℕ, zero, suc, ◌+◌, ◌-◌, ◌<◌, ◌≤◌, Bool, true, false, ◌&&◌, List, [], ◌∷◌, length, take, drop, Some, Result, Ok, sym}
+use Rattle.std.proofs.Common.{refl, ap, ◌∙◌, subst, arith, length-drop}
 use Rattle.std.specs.Prelude.{nat_eq}
 use Rattle.std.specs.Cmp.Lexicographic.{pointwise}
 use Rattle.std.specs.List.{slice_get}
@@ -68,7 +69,8 @@ module _ (whole : List ℕ) (at : ℕ) (within : at ≤ length whole) (l : Lexem
   number_first digits step =
       let is = next_from-sound whole at within l step.next in
       let same : kinds.Number ≡ l.kind = ap (λ (x : Spelled). x.kind) (sym step.spelled) in
-      let token : IsToken kinds.Number (bytes_at whole l) (drop l.end whole) = subst (λ k. IsToken k (bytes_at whole l) (drop l.end whole)) (sym same) is.token in
+      let token : IsToken kinds.Number (bytes_at whole l) (drop l.end whole) = subst (λ k. IsToken k (bytes_at whole l) (drop l.end whole)) (sym same)
+      is.token in
       subst (FirstPasses begins_number) (ap (λ (x : Spelled). x.bytes) step.spelled) token.first
 
   pub next_is_number : (byte : ℕ) → begins_number byte ≡ false → (digits : List ℕ)
@@ -77,7 +79,8 @@ module _ (whole : List ℕ) (at : ℕ) (within : at ≤ length whole) (l : Lexem
   next_is_number byte fails [] step = absurd (number_first [] step)
   next_is_number byte fails (d ∷ ds) step =
       let first : begins_number d ≡ true = number_first (d ∷ ds) step in
-      next_is_step byte whole at l (number (d ∷ ds)) d ds step refl ∙ ne_eqb d byte (λ same. let clash : true ≡ false = sym first ∙ ap begins_number same ∙ fails in cc)
+      next_is_step byte whole at l (number (d ∷ ds)) d ds step refl ∙ ne_eqb d byte
+      (λ same. let clash : true ≡ false = sym first ∙ ap begins_number same ∙ fails in cc)
 
 -- a token has a byte
 token_some : (kind : Token) (bytes after : List ℕ) → kind ≢ kinds.End → IsToken kind bytes after → 0 < length bytes
@@ -96,7 +99,8 @@ step_forward : (whole : List ℕ) (at : ℕ) → at ≤ length whole → (l : Le
 step_forward whole at within l s step =
     let is = next_from-sound whole at within l step.next in
     let some = token_some l.kind (bytes_at whole l) (drop l.end whole) step.not_end is.token in
-    let long : length (bytes_at whole l) ≡ l.end - l.start = length-take-le (l.end - l.start) (drop l.start whole) (omega (arith, length-drop l.start whole, is.order, is.within)) in
+    let long : length (bytes_at whole l) ≡ l.end - l.start = length-take-le (l.end - l.start) (drop l.start whole)
+    (omega (arith, length-drop l.start whole, is.order, is.within)) in
     omega (arith, some, long, is.from, is.order)
 
 -- there are no more tokens than bytes
@@ -146,7 +150,8 @@ pub take_exact : (whole : List ℕ) (at : ℕ) (l : Lexeme) (kind : Token) (byte
     → (is_kind kind kind && pointwise nat_eq bytes bytes) ≡ true
     → StepSpelled whole at l (record { kind = kind; bytes = bytes })
     → token_where (is_exact kind bytes whole) whole at ≡ Ok l
-take_exact whole at l kind bytes passes step = by_spelling (λ s. is_kind kind s.kind && pointwise nat_eq s.bytes bytes) whole at l (record { kind = kind; bytes = bytes }) step passes
+take_exact whole at l kind bytes passes step = by_spelling (λ s. is_kind kind s.kind && pointwise nat_eq s.bytes bytes) whole at l
+    (record { kind = kind; bytes = bytes }) step passes
 
 -- a test for a kind takes a token of that kind
 pub take_kind : (whole : List ℕ) (at : ℕ) (l : Lexeme) (kind : Token) (bytes : List ℕ) → is_kind kind kind ≡ true

@@ -48,22 +48,26 @@ module _ {A : Type 0} (L : List Spelled → Type 0) (R : A → List Spelled → 
 -- where an entry stands that goes on while it can, just this one is read, up to its end
 pub entry_decided : (whole : List ℕ) (at : ℕ) → at ≤ length whole → (r : Record) (end : ℕ) → IsEntryFrom whole at r end
     → entry_at whole at ≡ Ok (r, end)
-entry_decided whole at within r end is = decided IsEntryTokens IsEntry (λ v ss w. (v, w)) entry_once whole at within (entry_at whole at) (entry_stuck whole at within) (entry_whole whole at within) r is.tokens end is.next is.entry is.ends
+entry_decided whole at within r end is = decided IsEntryTokens IsEntry (λ v ss w. (v, w)) entry_once whole at within (entry_at whole at)
+    (entry_stuck whole at within) (entry_whole whole at within) r is.tokens end is.next is.entry is.ends
 
 -- the fault of the first token that can't be taken for an entry is what reading the entry ends with
 pub entry_offended : (whole : List ℕ) (at : ℕ) → at ≤ length whole → (fault : FileFault)
     → Offends IsEntryTokens whole at fault → entry_at whole at ≡ Err fault
-entry_offended whole at within fault o = offended IsEntryTokens IsEntry (λ v ss w. (v, w)) entry_once whole at within (entry_at whole at) (entry_stuck whole at within) (entry_whole whole at within) fault o
+entry_offended whole at within fault o = offended IsEntryTokens IsEntry (λ v ss w. (v, w)) entry_once whole at within (entry_at whole at)
+    (entry_stuck whole at within) (entry_whole whole at within) fault o
 
 -- where a comment stands, or none, it is read so, up to its end
 pub comment_decided : (whole : List ℕ) (at : ℕ) → at ≤ length whole → (comment : Option (List ℕ)) (end : ℕ)
     → IsCommentFrom whole at comment end → name_at whole at ≡ Ok (comment, end)
-comment_decided whole at within comment end is = decided IsCommentTokens IsName (λ v ss w. (v, w)) name_once whole at within (name_at whole at) (comment_stuck whole at within) (comment_whole whole at within) comment is.tokens end is.next is.name is.ends
+comment_decided whole at within comment end is = decided IsCommentTokens IsName (λ v ss w. (v, w)) name_once whole at within (name_at whole at)
+    (comment_stuck whole at within) (comment_whole whole at within) comment is.tokens end is.next is.name is.ends
 
 -- the fault of the first token that can't be taken for a comment is what reading the comment ends with
 pub comment_offended : (whole : List ℕ) (at : ℕ) → at ≤ length whole → (fault : FileFault)
     → Offends IsCommentTokens whole at fault → name_at whole at ≡ Err fault
-comment_offended whole at within fault o = offended IsCommentTokens IsName (λ v ss w. (v, w)) name_once whole at within (name_at whole at) (comment_stuck whole at within) (comment_whole whole at within) fault o
+comment_offended whole at within fault o = offended IsCommentTokens IsName (λ v ss w. (v, w)) name_once whole at within (name_at whole at)
+    (comment_stuck whole at within) (comment_whole whole at within) fault o
 
 head_of_once : (ss : List Spelled) → AreTokens ss → (v w : PrologueHead) → IsPrologueHead v ss []
     → IsPrologueHead w ss [] → v ≡ w
@@ -73,9 +77,11 @@ head_of_once ss are v w a b = let same = head_once v.0 w.0 v.1 w.1 ss [] [] a b 
 pub head_decided : (whole title : List ℕ) (names : List (List ℕ)) (end : ℕ) → IsHeadUpTo whole title names end
     → head_at whole 0 ≡ Ok ((title, names), end)
 head_decided whole title names end is =
-    decided IsHeadTokens IsPrologueHead (λ v ss w. (v.0, v.1, w)) head_of_once whole 0 (omega arith) (head_at whole 0) (head_stuck whole) (head_whole whole) (title, names) is.tokens end is.next is.head (head_ends whole end title names is.tokens is.head)
+    decided IsHeadTokens IsPrologueHead (λ v ss w. (v.0, v.1, w)) head_of_once whole 0 (omega arith) (head_at whole 0) (head_stuck whole) (head_whole whole)
+    (title, names) is.tokens end is.next is.head (head_ends whole end title names is.tokens is.head)
 
 -- the fault of the first token that can't be taken for the head is what reading the head ends with
 pub head_offended : (whole : List ℕ) (fault : FileFault) → Offends IsHeadTokens whole 0 fault
     → head_at whole 0 ≡ Err fault
-head_offended whole fault o = offended IsHeadTokens IsPrologueHead (λ v ss w. (v.0, v.1, w)) head_of_once whole 0 (omega arith) (head_at whole 0) (head_stuck whole) (head_whole whole) fault o
+head_offended whole fault o = offended IsHeadTokens IsPrologueHead (λ v ss w. (v.0, v.1, w)) head_of_once whole 0 (omega arith) (head_at whole 0)
+    (head_stuck whole) (head_whole whole) fault o

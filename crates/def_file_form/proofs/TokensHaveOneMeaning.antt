@@ -72,11 +72,13 @@ unfolding spaced
 in_turn [] are = All-cons (λ b. is_space b ≡ true) 32 [] refl (All-nil (λ b. is_space b ≡ true))
 in_turn (s ∷ ss) are =
     let rest = begins_space ss in
-    let here : IsToken s.kind s.bytes (bytes_of (spaced ss) (32 ∷ [])) = subst (IsToken s.kind s.bytes) (sym rest.1) (before_space s.kind s.bytes are.1.0 rest.0 are.0 are.1.1) in
+    let here : IsToken s.kind s.bytes (bytes_of (spaced ss) (32 ∷ [])) = subst (IsToken s.kind s.bytes) (sym rest.1)
+    (before_space s.kind s.bytes are.1.0 rest.0 are.0 are.1.1) in
     (All-cons (λ b. is_space b ≡ true) 32 [] refl (All-nil (λ b. is_space b ≡ true)), here, are.0, in_turn ss are.2)
 
 tokens_ahead : (ss : List Spelled) → AreTokens ss → Ahead (bytes_of (spaced ss) (32 ∷ [])) 0 ss
-tokens_ahead ss are = subst (Ahead (bytes_of (spaced ss) (32 ∷ [])) 0) (spaced_spelled ss) (ahead_pieces (bytes_of (spaced ss) (32 ∷ [])) (spaced ss) (32 ∷ []) (in_turn ss are) refl)
+tokens_ahead ss are = subst (Ahead (bytes_of (spaced ss) (32 ∷ [])) 0) (spaced_spelled ss)
+    (ahead_pieces (bytes_of (spaced ss) (32 ∷ [])) (spaced ss) (32 ∷ []) (in_turn ss are) refl)
 
 -- a reading gives one value
 value_once : {A : Type 0} (reading : Result (A × ℕ) FileFault) (v w : A) (m n : ℕ) → reading ≡ Ok (v, m)
@@ -162,11 +164,15 @@ no_more : (t : List ℕ) (ns : List (List ℕ)) (ss : List Spelled) → IsHead t
     → IsFront IsHeadTokens (ss ++ s ∷ []) → ⊥
 no_more t ns ss a s front =
     let other = front.1.2 in
-    let longer : IsHead front.1.0 front.1.1 (ss ++ s ∷ front.0) [] = subst (λ tokens. IsHead front.1.0 front.1.1 tokens []) (append_assoc ss (s ∷ []) front.0) other in
+    let longer : IsHead front.1.0 front.1.1 (ss ++ s ∷ front.0) [] = subst (λ tokens. IsHead front.1.0 front.1.1 tokens []) (append_assoc ss (s ∷ []) front.0)
+    other in
     let same = (head_once t front.1.0 ns front.1.1 (ss ++ s ∷ front.0) (s ∷ front.0) [] (head_more t ns ss [] (s ∷ front.0) a) longer).2 in
     cc
 
 -- nothing goes on behind the tokens of a head
 pub head_ends : (whole : List ℕ) (place : ℕ) (t : List ℕ) (ns : List (List ℕ)) (ss : List Spelled) → IsHead t ns ss []
     → EndsWhole IsHeadTokens whole ss place
-head_ends whole place t ns ss a = record { token = λ l next front. no_more t ns ss a (spelled_at whole l) front; no_text = λ p next takes. no_more t ns ss a (text takes.0) takes.2 }
+head_ends whole place t ns ss a = record {
+  token = λ l next front. no_more t ns ss a (spelled_at whole l) front;
+  no_text = λ p next takes. no_more t ns ss a (text takes.0) takes.2;
+}

@@ -94,7 +94,8 @@ module _ {A : Type 0} (L : List Spelled → Type 0) (R : A → List Spelled → 
   pub whole_read : (x : A × ℕ) → r ≡ Ok x → Read whole at x.1 (R x.0) → WholeRead L R whole at x.0 x.1
   whole_read x e read =
       let p = goes.past x e in
-      let ends = (ends_walk whole x.1).alike L (Part R Nothing) at alike (p.along (λ L n. PartEndsAt L whole x.1 n) (ends_walk whole x.1) Nothing none_follows (nothing_ends whole x.1)) in
+      let ends = (ends_walk whole x.1).alike L (Part R Nothing) at alike (p.along (λ L n. PartEndsAt L whole x.1 n) (ends_walk whole x.1) Nothing none_follows
+      (nothing_ends whole x.1)) in
       let next = are_next whole at read.tokens x.1 read.takes in
       let same : ends.tokens ≡ read.tokens = next_once whole at ends.tokens read.tokens x.1 at_within ends.before next in
       record {
@@ -117,12 +118,14 @@ none_behind = record { word = ([], refl); no_text = λ s ss e same. let clash = 
 -- where reading an entry ends with a fault, it is stuck with this fault
 pub entry_stuck : (whole : List ℕ) (at : ℕ) → at ≤ length whole → (fault : FileFault) → entry_at whole at ≡ Err fault
     → Stuck IsEntryTokens whole at fault
-entry_stuck whole at within fault e = whole_stuck IsEntryTokens IsEntry (whole_alike IsEntry) 1 MayFollow none_behind whole at within (entry_at whole at) (entry_goes whole at within) fault e
+entry_stuck whole at within fault e = whole_stuck IsEntryTokens IsEntry (whole_alike IsEntry) 1 MayFollow none_behind whole at within (entry_at whole at)
+    (entry_goes whole at within) fault e
 
 -- an entry that was read has all the tokens up to its end, and none goes on behind them
 pub entry_whole : (whole : List ℕ) (at : ℕ) → at ≤ length whole → (x : Record × ℕ) → entry_at whole at ≡ Ok x
     → WholeRead IsEntryTokens IsEntry whole at x.0 x.1
-entry_whole whole at within x e = whole_read IsEntryTokens IsEntry (whole_alike IsEntry) 1 MayFollow none_behind whole at within (entry_at whole at) (entry_goes whole at within) x e (entry_read whole at within x e)
+entry_whole whole at within x e = whole_read IsEntryTokens IsEntry (whole_alike IsEntry) 1 MayFollow none_behind whole at within (entry_at whole at)
+    (entry_goes whole at within) x e (entry_read whole at within x e)
 
 -- an entry with all the tokens up to its end is one from its offset on
 pub entry_from : (whole : List ℕ) (at : ℕ) (r : Record) (end : ℕ) → WholeRead IsEntryTokens IsEntry whole at r end
@@ -134,12 +137,14 @@ entry_from whole at r end w = record { tokens = w.tokens; next = w.next; entry =
 -- where reading the comment ends with a fault, it is stuck with this fault
 pub comment_stuck : (whole : List ℕ) (at : ℕ) → at ≤ length whole → (fault : FileFault) → name_at whole at ≡ Err fault
     → Stuck IsCommentTokens whole at fault
-comment_stuck whole at within fault e = whole_stuck IsCommentTokens IsName (whole_alike IsName) 0 (NoFirst kinds.Text) none_first whole at within (name_at whole at) (name_goes whole at within) fault e
+comment_stuck whole at within fault e = whole_stuck IsCommentTokens IsName (whole_alike IsName) 0 (NoFirst kinds.Text) none_first whole at within
+    (name_at whole at) (name_goes whole at within) fault e
 
 -- a comment that was read, or none, has all the tokens up to its end, and none goes on behind them
 pub comment_whole : (whole : List ℕ) (at : ℕ) → at ≤ length whole → (x : Option (List ℕ) × ℕ) → name_at whole at ≡ Ok x
     → WholeRead IsCommentTokens IsName whole at x.0 x.1
-comment_whole whole at within x e = whole_read IsCommentTokens IsName (whole_alike IsName) 0 (NoFirst kinds.Text) none_first whole at within (name_at whole at) (name_goes whole at within) x e (name_read whole at within x e)
+comment_whole whole at within x e = whole_read IsCommentTokens IsName (whole_alike IsName) 0 (NoFirst kinds.Text) none_first whole at within (name_at whole at)
+    (name_goes whole at within) x e (name_read whole at within x e)
 
 -- a comment with all the tokens up to its end is one from its offset on
 pub comment_from : (whole : List ℕ) (at : ℕ) (comment : Option (List ℕ)) (end : ℕ)
@@ -153,12 +158,14 @@ head_alike = record { to = λ ss h. ((h.0, h.1), [], h.2, refl); back = λ ss l.
 
 -- where reading the head ends with a fault, it is stuck with this fault
 pub head_stuck : (whole : List ℕ) (fault : FileFault) → head_at whole 0 ≡ Err fault → Stuck IsHeadTokens whole 0 fault
-head_stuck whole fault e = whole_stuck IsHeadTokens IsPrologueHead head_alike 1 HasWord ([], refl) whole 0 (omega arith) (head_at whole 0) (head_goes whole 0 (omega arith)) fault e
+head_stuck whole fault e = whole_stuck IsHeadTokens IsPrologueHead head_alike 1 HasWord ([], refl) whole 0 (omega arith) (head_at whole 0)
+    (head_goes whole 0 (omega arith)) fault e
 
 -- a head that was read has all the tokens up to its end, and none goes on behind them
 pub head_whole : (whole : List ℕ) (x : PrologueHead × ℕ) → head_at whole 0 ≡ Ok x
     → WholeRead IsHeadTokens IsPrologueHead whole 0 x.0 x.1
-head_whole whole x e = whole_read IsHeadTokens IsPrologueHead head_alike 1 HasWord ([], refl) whole 0 (omega arith) (head_at whole 0) (head_goes whole 0 (omega arith)) x e (head_read whole 0 (omega arith) x e)
+head_whole whole x e = whole_read IsHeadTokens IsPrologueHead head_alike 1 HasWord ([], refl) whole 0 (omega arith) (head_at whole 0)
+    (head_goes whole 0 (omega arith)) x e (head_read whole 0 (omega arith) x e)
 
 -- a head with all the tokens up to its end is one from the beginning of the bytes
 pub head_up_to : (whole title : List ℕ) (names : List (List ℕ)) (end : ℕ)

@@ -14,14 +14,18 @@ use Rattle.def_file.proofs.Fractions.{IfGiven, GivesFractions, zero_small, no_fr
 use Rattle.def_file.specs.Entries.{contents_of}
 use Rattle.def_file.proofs.OneMore.{one_more}
 use Rattle.def_file.proofs.WholeGames.{entries_make_whole_game}
-use Rattle.def_file_form.specs.Form.{Spelled, IsFraction, IsChance, AreActionsUpTo, IsActionList, AreMorePayoffs, ArePayoffs, IsPayoffList, IsEntryAs, AreEntries}
+use Rattle.def_file_form.specs.Form.{Spelled, IsFraction, IsChance, AreActionsUpTo, IsActionList, AreMorePayoffs, ArePayoffs, IsPayoffList, IsEntryAs}
+use Rattle.def_file_form.specs.Form.{AreEntries}
 use Rattle.def_file_form.specs.Laws.{StandsForWholeGame}
 
 -- a fraction that tokens say is in lowest terms and within the limit
 pub fraction_small : (f : Fraction) (tokens rest : List Spelled) → IsFraction f tokens rest → IsSmallFraction f
 fraction_small f tokens rest is =
     let l = is.literal.0 in
-    let small : IsSmallFraction (exact_value l) = ((fraction_of-reduced (signed_numerator l) (denominator l.body) is.literal.2).lowest, is.literal.3.in_lowest_terms) in
+    let small : IsSmallFraction (exact_value l) = (
+      (fraction_of-reduced (signed_numerator l) (denominator l.body) is.literal.2).lowest,
+      is.literal.3.in_lowest_terms,
+    ) in
     subst IsSmallFraction (sym is.literal.4) small
 
 chance_small : (kind : EntryKind) (f : Fraction) (tokens rest : List Spelled) → IsChance kind f tokens rest

@@ -90,18 +90,21 @@ IsChance Leaf f tokens rest = (f ≡ zero_fraction) × (tokens ≡ rest)
 abbrev pub AreActionsUpTo : EntryKind → List Action → List Spelled → List Spelled → Type 0
 AreActionsUpTo kind [] tokens rest = tokens ≡ close_brace ∷ rest
 AreActionsUpTo kind (a ∷ more) tokens rest =
-    (named done : List Spelled) × IsText a.name tokens named × IsChance kind a.chance named done × AreActionsUpTo kind more done rest
+    (named done : List Spelled) × IsText a.name tokens named × IsChance kind a.chance named done
+    × AreActionsUpTo kind more done rest
 
 -- a list of actions in braces, or nothing
 abbrev pub IsActionList : EntryKind → Option (List Action) → List Spelled → List Spelled → Type 0
 IsActionList kind None tokens rest = tokens ≡ rest
-IsActionList kind (Some actions) tokens rest = (opened : List Spelled) × (tokens ≡ open_brace ∷ opened) × AreActionsUpTo kind actions opened rest
+IsActionList kind (Some actions) tokens rest = (opened : List Spelled) × (tokens ≡ open_brace ∷ opened)
+    × AreActionsUpTo kind actions opened rest
 
 -- payoffs behind the first up to the closing brace, each with at most one comma before it
 abbrev pub AreMorePayoffs : List Fraction → List Spelled → List Spelled → Type 0
 AreMorePayoffs [] tokens rest = tokens ≡ close_brace ∷ rest
 AreMorePayoffs (f ∷ fs) tokens rest =
-    (parted done : List Spelled) × ((tokens ≡ parted) ⊎ (tokens ≡ comma ∷ parted)) × IsFraction f parted done × AreMorePayoffs fs done rest
+    (parted done : List Spelled) × ((tokens ≡ parted) ⊎ (tokens ≡ comma ∷ parted)) × IsFraction f parted done
+    × AreMorePayoffs fs done rest
 
 abbrev pub ArePayoffs : List Fraction → List Spelled → List Spelled → Type 0
 ArePayoffs [] tokens rest = tokens ≡ close_brace ∷ rest
@@ -110,7 +113,8 @@ ArePayoffs (f ∷ fs) tokens rest = (done : List Spelled) × IsFraction f tokens
 -- a list of payoffs in braces, or nothing
 abbrev pub IsPayoffList : Option (List Fraction) → List Spelled → List Spelled → Type 0
 IsPayoffList None tokens rest = tokens ≡ rest
-IsPayoffList (Some fs) tokens rest = (opened : List Spelled) × (tokens ≡ open_brace ∷ opened) × ArePayoffs fs opened rest
+IsPayoffList (Some fs) tokens rest = (opened : List Spelled) × (tokens ≡ open_brace ∷ opened)
+    × ArePayoffs fs opened rest
 
 -- a set's number, which isn't 0, and then its name and its actions, where they are given
 pub record IsSet (kind : EntryKind) (m : SetMention) (tokens rest : List Spelled) : Type 0 where

@@ -20,7 +20,8 @@ use Rattle.def_file_form.specs.Form.{Spelled, number, text, spelled_at}
 abbrev pub AreNext : List ℕ → ℕ → List Spelled → ℕ → Type 0
 AreNext bytes at [] end = at ≡ end
 AreNext bytes at (s ∷ ss) end =
-    (token : Lexeme) × (next_from bytes at ≡ Ok token) × (token.kind ≢ kinds.End) × (spelled_at bytes token ≡ s) × AreNext bytes token.end ss end
+    (token : Lexeme) × (next_from bytes at ≡ Ok token) × (token.kind ≢ kinds.End) × (spelled_at bytes token ≡ s)
+    × AreNext bytes token.end ss end
 
 -- Which numbers a place takes: whole numbers, those from 1 on, or all literals.
 pub data NumberKind : Type 0 where
@@ -42,7 +43,8 @@ IsFront Whole tokens = (more : List Spelled) × Whole (tokens ++ more)
 
 -- the next token may be a number, and exactly these numbers
 abbrev pub TakesNumbers : (List Spelled → Type 0) → List Spelled → NumberKind → Type 0
-TakesNumbers Whole tokens numbers = (bytes : List ℕ) → IsFront Whole (tokens ++ number bytes ∷ []) ↔ (literal_fault numbers bytes ≡ None)
+TakesNumbers Whole tokens numbers = (bytes : List ℕ) → IsFront Whole (tokens ++ number bytes ∷ [])
+    ↔ (literal_fault numbers bytes ≡ None)
 
 -- the next token may be a text
 abbrev pub TakesText : (List Spelled → Type 0) → List Spelled → Type 0

@@ -24,7 +24,8 @@ module _ (whole : List ℕ) (at : ℕ) (within : at ≤ length whole) where
       → byte_from whole at ≡ Some b
   unfolding byte_from
   first-byte_from b place first is =
-      let start_is = space_is whole at within place first.from (omega (arith, first.within)) first.space (subst (FirstFails is_space) (sym (drop_more whole place 0 first.within)) first.byte) in
+      let start_is = space_is whole at within place first.from (omega (arith, first.within)) first.space
+      (subst (FirstFails is_space) (sym (drop_more whole place 0 first.within)) first.byte) in
       ap (slice_get whole) start_is ∙ slice_get-get_or whole place 0 first.within ∙ ap Some is
 
   -- the bytes up to the end
@@ -36,7 +37,8 @@ module _ (whole : List ℕ) (at : ℕ) (within : at ≤ length whole) where
   unfolding byte_from
   byte_from-space is =
       let start = after_space whole at in
-      let past : length whole ≤ start = ⊎_elim (λ inner. let clash = sym (slice_get-get_or whole start 0 inner) ∙ is in absurd cc) (λ past. past) (order start (length whole)) in
+      let past : length whole ≤ start = ⊎_elim (λ inner. let clash = sym (slice_get-get_or whole start 0 inner) ∙ is in absurd cc) (λ past. past)
+      (order start (length whole)) in
       let start_is : start ≡ length whole = omega (arith, space_within whole at within) in
       subst (AllPass is_space) to_end (subst (λ n. AllPass is_space (slice_range whole at n)) start_is (space_passes whole at within))
 
@@ -45,5 +47,6 @@ module _ (whole : List ℕ) (at : ℕ) (within : at ≤ length whole) where
   unfolding byte_from
   space-byte_from space =
       let end = length whole in
-      let start_is = space_is whole at within end within (omega arith) (subst (AllPass is_space) (sym to_end) space) (subst (FirstFails is_space) (sym (drop_all end whole (omega arith))) tt) in
+      let start_is = space_is whole at within end within (omega arith) (subst (AllPass is_space) (sym to_end) space)
+      (subst (FirstFails is_space) (sym (drop_all end whole (omega arith))) tt) in
       ap (slice_get whole) start_is ∙ slice_get_past whole end (omega arith)

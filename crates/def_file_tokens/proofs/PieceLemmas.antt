@@ -1,5 +1,6 @@
 -- Bytes as white space and tokens in turn, and as the tokens that are read from them.
-use Rattle.std.proofs.Common.{◌≡◌, ℕ, ◌+◌, ◌-◌, ◌≤◌, List, [], ◌∷◌, ◌++◌, length, take, drop, Ok, sym, refl, ap, ◌∙◌, subst, arith, length-append, length-drop, take-append-drop, append_assoc, append-nil}
+use Rattle.std.proofs.Common.{◌≡◌, ℕ, ◌+◌, ◌-◌, ◌≤◌, List, [], ◌∷◌, ◌++◌, length, take, drop, Ok, sym, refl, ap, ◌∙◌, subst, arith, length-append, length-drop}
+use Rattle.std.proofs.Common.{take-append-drop, append_assoc, append-nil}
 use Rattle.std.specs.List.{AllPass, slice_range}
 use Rattle.std.proofs.lemmas.List.{drop-drop, take_at, drop_at, length-take-le, take_all}
 use Rattle.def_file_tokens.specs.declared.Token.{Token}
@@ -22,13 +23,18 @@ piece_here front space bytes after kind all token =
     let by_start : whole ≡ (front ++ space) ++ (bytes ++ after) = sym (append_assoc front space (bytes ++ after)) in
     let by_end : whole ≡ ((front ++ space) ++ bytes) ++ after = by_start ∙ sym (append_assoc (front ++ space) bytes after) in
     let from_front : drop at whole ≡ space ++ (bytes ++ after) = drop_at front (space ++ (bytes ++ after)) at refl in
-    let from_start : drop start whole ≡ bytes ++ after = ap (drop start) by_start ∙ drop_at (front ++ space) (bytes ++ after) start (length-append front space) in
-    let from_end : drop end whole ≡ after = ap (drop end) by_end ∙ drop_at ((front ++ space) ++ bytes) after end (length-append (front ++ space) bytes ∙ ap (λ n. n + length bytes) (length-append front space)) in
-    let long : length whole ≡ end + length after = ap length by_end ∙ length-append ((front ++ space) ++ bytes) after ∙ ap (λ n. n + length after) (length-append (front ++ space) bytes ∙ ap (λ n. n + length bytes) (length-append front space)) in
+    let from_start : drop start whole ≡ bytes ++ after = ap (drop start) by_start
+    ∙ drop_at (front ++ space) (bytes ++ after) start (length-append front space) in
+    let from_end : drop end whole ≡ after = ap (drop end) by_end ∙ drop_at ((front ++ space) ++ bytes) after end
+    (length-append (front ++ space) bytes ∙ ap (λ n. n + length bytes) (length-append front space)) in
+    let long : length whole ≡ end + length after = ap length by_end ∙ length-append ((front ++ space) ++ bytes) after
+    ∙ ap (λ n. n + length after) (length-append (front ++ space) bytes ∙ ap (λ n. n + length bytes) (length-append front space)) in
     let space_len : start - at ≡ length space = omega arith in
     let bytes_len : end - start ≡ length bytes = omega arith in
-    let gap : slice_range whole at start ≡ space = ap (λ n. take n (drop at whole)) space_len ∙ ap (take (length space)) from_front ∙ take_at space (bytes ++ after) (length space) refl in
-    let spelled : slice_range whole start end ≡ bytes = ap (λ n. take n (drop start whole)) bytes_len ∙ ap (take (length bytes)) from_start ∙ take_at bytes after (length bytes) refl in
+    let gap : slice_range whole at start ≡ space = ap (λ n. take n (drop at whole)) space_len ∙ ap (take (length space)) from_front
+    ∙ take_at space (bytes ++ after) (length space) refl in
+    let spelled : slice_range whole start end ≡ bytes = ap (λ n. take n (drop start whole)) bytes_len ∙ ap (take (length bytes)) from_start
+    ∙ take_at bytes after (length bytes) refl in
     next_from-complete whole at (omega (arith, long)) (span kind start end) (record {
       from = omega arith;
       order = omega arith;
@@ -54,8 +60,10 @@ pub reads_pieces : (front rest : List ℕ) (ps : List Piece) → ArePieces ps re
 reads_pieces front rest [] all = end_here front rest all
 reads_pieces front rest (p ∷ ps) all =
     let behind = front ++ p.space ++ p.bytes in
-    let regrouped : behind ++ bytes_of ps rest ≡ front ++ (p.space ++ (p.bytes ++ bytes_of ps rest)) = append_assoc (front ++ p.space) p.bytes (bytes_of ps rest) ∙ append_assoc front p.space (p.bytes ++ bytes_of ps rest) in
-    let end : length behind ≡ length front + length p.space + length p.bytes = length-append (front ++ p.space) p.bytes ∙ ap (λ n. n + length p.bytes) (length-append front p.space) in (
+    let regrouped : behind ++ bytes_of ps rest ≡ front ++ (p.space ++ (p.bytes ++ bytes_of ps rest)) = append_assoc (front ++ p.space) p.bytes
+    (bytes_of ps rest) ∙ append_assoc front p.space (p.bytes ++ bytes_of ps rest) in
+    let end : length behind ≡ length front + length p.space + length p.bytes = length-append (front ++ p.space) p.bytes
+    ∙ ap (λ n. n + length p.bytes) (length-append front p.space) in (
       piece_here front p.space p.bytes (bytes_of ps rest) p.kind all.0 all.1,
       all.2,
       subst (λ l. Reads l (length front + length p.space + length p.bytes) (lexemes_of (length front + length p.space + length p.bytes) ps)) regrouped
@@ -84,8 +92,10 @@ pieces_read whole at (l ∷ ls) within reads =
     let bytes = slice_range whole l.start l.end in
     let place : at + (l.start - at) ≡ l.start = omega (arith, is.from) in
     let place2 : l.start + (l.end - l.start) ≡ l.end = omega (arith, is.order) in
-    let space_len : length space ≡ l.start - at = length-take-le (l.start - at) (drop at whole) (omega (arith, length-drop at whole, is.from, is.order, is.within)) in
-    let bytes_len : length bytes ≡ l.end - l.start = length-take-le (l.end - l.start) (drop l.start whole) (omega (arith, length-drop l.start whole, is.order, is.within)) in
+    let space_len : length space ≡ l.start - at = length-take-le (l.start - at) (drop at whole)
+    (omega (arith, length-drop at whole, is.from, is.order, is.within)) in
+    let bytes_len : length bytes ≡ l.end - l.start = length-take-le (l.end - l.start) (drop l.start whole)
+    (omega (arith, length-drop l.start whole, is.order, is.within)) in
     let start_is : at + length space ≡ l.start = omega (arith, space_len, place) in
     let end_is : at + length space + length bytes ≡ l.end = omega (arith, start_is, bytes_len, place2) in
     record {
@@ -133,7 +143,8 @@ pieces_by_places at [] [] rest end places same = (refl, same)
 pieces_by_places at [] (q ∷ qs) rest end places same = cc
 pieces_by_places at (p ∷ ps) [] rest end places same = cc
 pieces_by_places at (p ∷ ps) (q ∷ qs) rest end places same =
-    let first : span p.kind (at + length p.space) (at + length p.space + length p.bytes) ≡ span q.kind (at + length q.space) (at + length q.space + length q.bytes) = cc in
+    let first : span p.kind (at + length p.space) (at + length p.space + length p.bytes)
+    ≡ span q.kind (at + length q.space) (at + length q.space + length q.bytes) = cc in
     let kinds = ap (λ (l : Lexeme). l.kind) first in
     let starts = ap (λ (l : Lexeme). l.start) first in
     let ends = ap (λ (l : Lexeme). l.end) first in
@@ -147,4 +158,5 @@ pieces_by_places at (p ∷ ps) (q ∷ qs) rest end places same =
 pub pieces_once : (ps qs : List Piece) (rest end : List ℕ) → ArePieces ps rest → ArePieces qs end
     → bytes_of ps rest ≡ bytes_of qs end → (ps ≡ qs) × (rest ≡ end)
 pieces_once ps qs rest end are others same =
-    pieces_by_places 0 ps qs rest end (reads_once (bytes_of ps rest) 0 (lexemes_of 0 ps) (lexemes_of 0 qs) (reads_pieces [] rest ps are) (subst (λ l. Reads l 0 (lexemes_of 0 qs)) (sym same) (reads_pieces [] end qs others))) same
+    pieces_by_places 0 ps qs rest end (reads_once (bytes_of ps rest) 0 (lexemes_of 0 ps) (lexemes_of 0 qs) (reads_pieces [] rest ps are)
+    (subst (λ l. Reads l 0 (lexemes_of 0 qs)) (sym same) (reads_pieces [] end qs others))) same

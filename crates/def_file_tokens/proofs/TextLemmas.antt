@@ -1,5 +1,6 @@
 -- The inside of a text, its closing mark, and the bytes that it stands for.
-use Rattle.std.proofs.Common.{◌≡◌, ◌≢◌, ℕ, suc, ◌+◌, ◌≤◌, true, false, eqb, ◌-◌, List, [], ◌∷◌, ◌++◌, length, Some, None, sym, refl, ap, ◌∙◌, subst, arith, ⊎_elim, ◌⊎◌, inl, inr, eq-eqb}
+use Rattle.std.proofs.Common.{◌≡◌, ◌≢◌, ℕ, suc, ◌+◌, ◌≤◌, true, false, eqb, ◌-◌, List, [], ◌∷◌, ◌++◌, length, Some, None, sym, refl, ap, ◌∙◌, subst, arith}
+use Rattle.std.proofs.Common.{⊎_elim, ◌⊎◌, inl, inr, eq-eqb}
 use Rattle.std.specs.List.{slice_range}
 use Rattle.std.proofs.Common.{min, take, drop, take-append-drop}
 use Rattle.std.proofs.lemmas.List.{length-take, length-drop, drop-drop, take_at, length-append, append_assoc}
@@ -72,7 +73,8 @@ last_or-unescaped before (b ∷ c ∷ bs) =
 
 -- what an inside stands for doesn't end with a backslash
 pub EndsPlainly-unescaped : (inside : List ℕ) → IsInside inside → EndsPlainly (unescaped inside)
-EndsPlainly-unescaped inside is = EndsPlainly-last_or (unescaped inside) (λ ends. last_or-EndsPlainly inside is.plain_end (sym (last_or-unescaped 34 inside) ∙ ends))
+EndsPlainly-unescaped inside is = EndsPlainly-last_or (unescaped inside) (λ ends. last_or-EndsPlainly inside is.plain_end
+    (sym (last_or-unescaped 34 inside) ∙ ends))
 
 -- one step of escaped
 escaped-mark : (b : ℕ) (bs : List ℕ) → b ≡ 34 → escaped (b ∷ bs) ≡ 92 ∷ 34 ∷ escaped bs
@@ -127,7 +129,8 @@ plain_front : (bs : List ℕ) → begins_with_mark (escaped bs) ≡ false
 unfolding escaped
 plain_front [] = refl
 plain_front (b ∷ bs) =
-    ⊎_elim (λ mark. ap begins_with_mark (escaped-mark b bs mark.1)) (λ other. ap begins_with_mark (escaped-other b bs other.1) ∙ ne_eqb b 34 other.1) (eqb_tells b 34)
+    ⊎_elim (λ mark. ap begins_with_mark (escaped-mark b bs mark.1)) (λ other. ap begins_with_mark (escaped-other b bs other.1) ∙ ne_eqb b 34 other.1)
+    (eqb_tells b 34)
 
 unescaped-escaped : (bs : List ℕ) → unescaped (escaped bs) ≡ bs
 unfolding escaped unescaped
@@ -245,7 +248,8 @@ pub slice_range-inner : (whole : List ℕ) (start end : ℕ) (inside : List ℕ)
     → (start + 2 ≤ end) × (slice_range whole (start + 1) (end - 1) ≡ inside)
 slice_range-inner whole start end inside within quoted =
     let rest = drop (end - start) (drop start whole) in
-    let len : length inside + 2 ≡ min (end - start) (length whole - start) = omega (arith, ap length quoted, length-take (end - start) (drop start whole), length-drop start whole, length-append inside (34 ∷ [])) in
+    let len : length inside + 2 ≡ min (end - start) (length whole - start) = omega
+    (arith, ap length quoted, length-take (end - start) (drop start whole), length-drop start whole, length-append inside (34 ∷ [])) in
     let cut : end - 1 - (start + 1) ≡ length inside = omega (arith, len) in
     let split : drop start whole ≡ (34 ∷ (inside ++ 34 ∷ [])) ++ rest = sym (take-append-drop (end - start) (drop start whole)) ∙ ap (λ l. l ++ rest) quoted in
     let behind : drop (start + 1) whole ≡ inside ++ (34 ∷ rest) = sym (drop-drop 1 start whole) ∙ ap (drop 1) split ∙ append_assoc inside (34 ∷ []) rest in (

@@ -1,5 +1,7 @@
 -- The token at an offset, by its first byte, and the next token behind white space.
-use Rattle.std.proofs.Common.{◌≡◌, ◌≢◌, ℕ, zero, suc, ◌+◌, ◌-◌, ◌<◌, ◌≤◌, Bool, true, false, List, [], ◌∷◌, ◌++◌, length, take, drop, get_or, Option, Some, None, Ok, Err, sym, refl, ap, ◌∙◌, subst, arith, ⊎_elim, eq-eqb, length-append, length-drop, take-append-drop, append_assoc, add-zero}
+use Rattle.std.proofs.Common.{◌≡◌, ◌≢◌, ℕ, zero, suc, ◌+◌, ◌-◌, ◌<◌, ◌≤◌, Bool, true, false, List, [], ◌∷◌, ◌++◌, length, take, drop, get_or, Option, Some}
+use Rattle.std.proofs.Common.{None, Ok, Err, sym, refl, ap, ◌∙◌, subst, arith, ⊎_elim, eq-eqb, length-append, length-drop, take-append-drop, append_assoc}
+use Rattle.std.proofs.Common.{add-zero}
 use Rattle.std.specs.List.{prefix_len, AllPass, AllByRecursion, slice_range}
 use Rattle.std.proofs.lemmas.List.Elements.{All-from_recursion, recursion_from_All}
 use Rattle.std.proofs.lemmas.List.{drop-drop, drop_more, take_at, drop_all, length-take-le}
@@ -16,7 +18,8 @@ use Rattle.def_file_tokens.specs.Bytes.{is_space, in_run, begins_word, begins_nu
 use Rattle.def_file_tokens.specs.Texts.{closing_from, MarksEscaped}
 use Rattle.def_file_tokens.specs.Spelling.{FirstPasses, FirstFails, IsRun, IsToken, IsLexemeFrom, IsFirstByteFrom, IsSyntaxFrom, IsUnclosedFrom}
 use Rattle.def_file_tokens.specs.Tokens.{span, text_from, token_at, after_space, next_from}
-use Rattle.def_file_tokens.proofs.TextLemmas.{closing_from-sound, closing_from-complete, closing_from-none, none-closing_from, EndsPlainly-last_or, last_or-EndsPlainly}
+use Rattle.def_file_tokens.proofs.TextLemmas.{closing_from-sound, closing_from-complete, closing_from-none, none-closing_from, EndsPlainly-last_or}
+use Rattle.def_file_tokens.proofs.TextLemmas.{last_or-EndsPlainly}
 
 -- a byte that passes a test isn't one that fails it
 passes_apart : (test : ℕ → Bool) (b c : ℕ) → test b ≡ true → test c ≡ false → b ≢ c
@@ -169,7 +172,8 @@ text_sound start bs (Some close) lexeme search_is is =
     let within = closing.0 in
     let regrouped : 34 ∷ bs ≡ (34 ∷ (c.inside ++ 34 ∷ [])) ++ c.after = ap (λ l. 34 ∷ l) (c.split ∙ sym (append_assoc c.inside (34 ∷ []) c.after)) in
     let len_is : length (34 ∷ (c.inside ++ 34 ∷ [])) ≡ close + 1 - start = omega (arith, length-append c.inside (34 ∷ []), c.is_len) in
-    let quoted : take (close + 1 - start) (34 ∷ bs) ≡ 34 ∷ (c.inside ++ 34 ∷ []) = ap (take (close + 1 - start)) regrouped ∙ take_at (34 ∷ (c.inside ++ 34 ∷ [])) c.after (close + 1 - start) len_is in
+    let quoted : take (close + 1 - start) (34 ∷ bs) ≡ 34 ∷ (c.inside ++ 34 ∷ []) = ap (take (close + 1 - start)) regrouped
+    ∙ take_at (34 ∷ (c.inside ++ 34 ∷ [])) c.after (close + 1 - start) len_is in
     subst (IsTokenOf start (34 ∷ bs)) lexeme_is (record {
       begins = refl;
       len = close + 1 - start;
@@ -203,7 +207,8 @@ token_at-sound start [] lexeme is =
 token_at-sound start (b ∷ bs) lexeme is =
     elim (begins_of b) [
       | quote mark ↦
-          subst (λ x. IsTokenOf start (x ∷ bs) lexeme) (sym mark) (text_sound start bs (closing_from (start + 1) 34 bs) lexeme refl (ap (λ x. text_from start (closing_from (start + 1) x bs)) (sym mark) ∙ sym (token_at-text start b bs mark) ∙ is))
+          subst (λ x. IsTokenOf start (x ∷ bs) lexeme) (sym mark) (text_sound start bs (closing_from (start + 1) 34 bs) lexeme refl
+          (ap (λ x. text_from start (closing_from (start + 1) x bs)) (sym mark) ∙ sym (token_at-text start b bs mark) ∙ is))
       | opens mark ↦ one_sound start b 123 bs Open lexeme mark refl (let e = sym (token_at-open start b bs mark) ∙ is in cc)
       | closes mark ↦ one_sound start b 125 bs Close lexeme mark refl (let e = sym (token_at-close start b bs mark) ∙ is in cc)
       | comma mark ↦ one_sound start b 44 bs Comma lexeme mark refl (let e = sym (token_at-comma start b bs mark) ∙ is in cc)
@@ -217,7 +222,8 @@ token_at-sound start (b ∷ bs) lexeme is =
             token = run_here begins_word b bs begins (word_in_run b begins);
           })
       | number no_word begins ↦
-          let lexeme_is : span Number start (start + prefix_len in_run (b ∷ bs)) ≡ lexeme = let e = sym (token_at-number start b bs no_word begins) ∙ is in cc in
+          let lexeme_is : span Number start (start + prefix_len in_run (b ∷ bs)) ≡ lexeme = let e = sym (token_at-number start b bs no_word begins)
+          ∙ is in cc in
           subst (IsTokenOf start (b ∷ bs)) lexeme_is (record {
             begins = refl;
             len = prefix_len in_run (b ∷ bs);
@@ -303,7 +309,8 @@ module _ (whole : List ℕ) (at : ℕ) (within : at ≤ length whole) where
       let left : drop (place - at) rest ≡ drop place whole = drop-drop (place - at) at whole ∙ ap (λ n. drop n whole) place_is in
       let len : prefix_len is_space rest ≡ place - at =
       ap (prefix_len is_space) (sym (take-append-drop (place - at) rest))
-      ∙ prefix_len-append is_space (take (place - at) rest) (drop (place - at) rest) (passing_from is_space _ space) (subst (FirstFails is_space) (sym left) stops)
+      ∙ prefix_len-append is_space (take (place - at) rest) (drop (place - at) rest) (passing_from is_space _ space)
+      (subst (FirstFails is_space) (sym left) stops)
       ∙ length-take-le (place - at) rest (omega (arith, length-drop at whole)) in
       omega (arith, len)
 
@@ -322,7 +329,8 @@ module _ (whole : List ℕ) (at : ℕ) (within : at ≤ length whole) where
         order = omega (arith, t.begins, t.ends);
         within = omega (arith, ends_within, t.ends);
         space = subst (λ n. AllPass is_space (slice_range whole at n)) starts space_passes;
-        token = subst (IsToken lexeme.kind (take (lexeme.end - lexeme.start) (drop lexeme.start whole))) (drop-drop t.len start whole ∙ ap (λ n. drop n whole) place)
+        token = subst (IsToken lexeme.kind (take (lexeme.end - lexeme.start) (drop lexeme.start whole)))
+            (drop-drop t.len start whole ∙ ap (λ n. drop n whole) place)
             (subst (λ n. IsToken lexeme.kind (take n (drop lexeme.start whole)) (drop t.len (drop start whole))) len
             (subst (λ n. IsToken lexeme.kind (take t.len (drop n whole)) (drop t.len (drop start whole))) starts t.token));
       }
@@ -337,7 +345,8 @@ module _ (whole : List ℕ) (at : ℕ) (within : at ≤ length whole) where
       let place : start + len ≡ lexeme.end = omega (arith, is.order) in
       let left : drop len rest ≡ drop lexeme.end whole = drop-drop len start whole ∙ ap (λ n. drop n whole) place in
       let split : take len rest ++ drop lexeme.end whole ≡ rest = ap (λ l. take len rest ++ l) (sym left) ∙ take-append-drop len rest in
-      let start_is = space_is start is.from (omega (arith, is.order, is.within)) is.space (subst (FirstFails is_space) split (token_not_space lexeme.kind (take len rest) (drop lexeme.end whole) is.token)) in
+      let start_is = space_is start is.from (omega (arith, is.order, is.within)) is.space
+      (subst (FirstFails is_space) split (token_not_space lexeme.kind (take len rest) (drop lexeme.end whole) is.token)) in
       let len_is : length (take len rest) ≡ len = length-take-le len rest (omega (arith, length-drop start whole, is.order, is.within)) in
       ap (λ n. token_at n (drop n whole)) start_is
       ∙ ap (token_at start) (sym split)
@@ -416,7 +425,8 @@ module _ (whole : List ℕ) (at : ℕ) (within : at ≤ length whole) where
       → next_from whole at ≡ token_at place (get_or whole place 0 ∷ drop (place + 1) whole)
   unfolding next_from
   first_is place is =
-      let start_is = space_is whole at within place is.from (omega (arith, is.within)) is.space (subst (FirstFails is_space) (sym (drop_more whole place 0 is.within)) is.byte) in
+      let start_is = space_is whole at within place is.from (omega (arith, is.within)) is.space
+      (subst (FirstFails is_space) (sym (drop_more whole place 0 is.within)) is.byte) in
       ap (λ n. token_at n (drop n whole)) start_is ∙ ap (token_at place) (drop_more whole place 0 is.within)
 
   -- a fault comes within the bytes
@@ -424,7 +434,8 @@ module _ (whole : List ℕ) (at : ℕ) (within : at ≤ length whole) where
   unfolding next_from
   not_at_end fault is =
       let start = after_space whole at in
-      ⊎_elim (λ inner. inner) (λ past. let clash = sym (ap (token_at start) (drop_all start whole past) ∙ token_at-end start) ∙ is in absurd cc) (order start (length whole))
+      ⊎_elim (λ inner. inner) (λ past. let clash = sym (ap (token_at start) (drop_all start whole past) ∙ token_at-end start) ∙ is in absurd cc)
+      (order start (length whole))
 
   here : (fault : LexFault) (is : next_from whole at ≡ Err fault)
       → token_at (after_space whole at) (get_or whole (after_space whole at) 0 ∷ drop (after_space whole at + 1) whole)

@@ -6,7 +6,8 @@ use Rattle.def_file_tokens.specs.declared.Lexeme.{Lexeme}
 use Rattle.def_file_tokens.specs.declared.LexFault.TheVariants.{Syntax, Unclosed}
 use Rattle.def_file_tokens.specs.Bytes.{is_space}
 use Rattle.def_file_tokens.specs.Texts.{IsInside, EndsPlainly, unescaped, escaped}
-use Rattle.def_file_tokens.specs.Spelling.{IsLexemeFrom, IsFirstByteFrom, IsSyntaxFrom, IsUnclosedFrom, Piece, bytes_of, ArePieces, lexemes_of}
+use Rattle.def_file_tokens.specs.Spelling.{IsLexemeFrom, IsFirstByteFrom, IsSyntaxFrom, IsUnclosedFrom, Piece, bytes_of}
+use Rattle.def_file_tokens.specs.Spelling.{ArePieces, lexemes_of}
 use Rattle.def_file_tokens.specs.Tokens.{span, byte_from, next_from, Reads}
 
 -- the next token is what the format's own words call one from there on
@@ -47,7 +48,8 @@ PiecesAreRead = (front rest : List ℕ) (ps : List Piece) → ArePieces ps rest
 -- what is read as tokens is spelled by pieces, and the tokens are those of the pieces
 abbrev pub ReadIsPieces : Type 0
 ReadIsPieces = (whole : List ℕ) (at : ℕ) (lexemes : List Lexeme) → at ≤ length whole → Reads whole at lexemes
-    → (ps : List Piece) × (rest : List ℕ) × ArePieces ps rest × (drop at whole ≡ bytes_of ps rest) × (lexemes ≡ lexemes_of at ps)
+    → (ps : List Piece) × (rest : List ℕ) × ArePieces ps rest × (drop at whole ≡ bytes_of ps rest)
+    × (lexemes ≡ lexemes_of at ps)
 
 -- the same bytes are spelled by the same pieces with the same rest behind them
 abbrev pub OneDivision : Type 0

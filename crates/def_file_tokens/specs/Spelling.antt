@@ -1,5 +1,6 @@
 -- How tokens are spelled: bytes are white space and tokens in turn, each run being longest.
-use Rattle.std.specs.Prelude.{◌≡◌, ◌≢◌, ℕ, ◌+◌, ◌≤◌, ◌<◌, Bool, true, false, List, [], ◌∷◌, ◌++◌, length, drop, slice_range, slice_index}
+use Rattle.std.specs.Prelude.{◌≡◌, ◌≢◌, ℕ, ◌+◌, ◌≤◌, ◌<◌, Bool, true, false, List, [], ◌∷◌, ◌++◌, length, drop}
+use Rattle.std.specs.Prelude.{slice_range, slice_index}
 use Rattle.std.specs.List.{AllPass}
 use Rattle.def_file_tokens.specs.declared.Token.{Token}
 use Rattle.def_file_tokens.specs.declared.Token.TheVariants.{Word, Text, Number, Open, Close, Comma, End}
@@ -80,7 +81,8 @@ bytes_of (p ∷ ps) rest = p.space ++ (p.bytes ++ bytes_of ps rest)
 -- white space and a token in turn, and white space at the end; no piece is the end
 abbrev pub ArePieces : List Piece → List ℕ → Type 0
 ArePieces [] rest = AllPass is_space rest
-ArePieces (p ∷ ps) rest = AllPass is_space p.space × IsToken p.kind p.bytes (bytes_of ps rest) × (p.kind ≢ End) × ArePieces ps rest
+ArePieces (p ∷ ps) rest = AllPass is_space p.space × IsToken p.kind p.bytes (bytes_of ps rest) × (p.kind ≢ End)
+    × ArePieces ps rest
 
 -- where the tokens of pieces lie, the first of which begin at the offset `at`
 abbrev pub lexemes_of : ℕ → List Piece → List Lexeme

@@ -4,7 +4,9 @@ use Prim.Native.Nat.{◌∣◌}
 use Rattle.std.specs.Int.{IsGcd}
 use Rattle.std.proofs.lemmas.Nat.Gcd.{IsGcd-from_zero, IsGcd-from_mod, same_from_IsGcd, dvd_antisymm}
 use Rattle.std.proofs.lemmas.Nat.{mod-mul-add}
-use Rattle.std.proofs.Math.Nat.{mod-lt, zero-mod, mul_comm, mul-one, mul-lt-mul_of_pos_left, div-add-mod', mul-div_cancel', dvd-mul_left, dvd-mul_right, dvd_of_mul-dvd-mul_left, eq-one_of_dvd-one, mul-dvd-mul_left, zero-mul, eq-zero_of_zero-dvd, eq_of_mul-eq-mul_left, eq_of_mul-eq-mul_right}
+use Rattle.std.proofs.Math.Nat.{mod-lt, zero-mod, mul_comm, mul-one, mul-lt-mul_of_pos_left, div-add-mod', mul-div_cancel', dvd-mul_left, dvd-mul_right}
+use Rattle.std.proofs.Math.Nat.{dvd_of_mul-dvd-mul_left, eq-one_of_dvd-one, mul-dvd-mul_left, zero-mul, eq-zero_of_zero-dvd, eq_of_mul-eq-mul_left}
+use Rattle.std.proofs.Math.Nat.{eq_of_mul-eq-mul_right}
 use Rattle.def_fraction.specs.Divisors.{gcd_within, gcd, lcm, IsLcm}
 
 IsGcd-gcd_within : (turns a b : ℕ) → b ≤ turns → IsGcd a b (gcd_within turns a b)
@@ -38,7 +40,8 @@ IsGcd-gcd_within_scaled (suc turns) k a zero h = IsGcd-from_zero (k * a) (k * 0)
 IsGcd-gcd_within_scaled (suc turns) k a (suc b) h =
     let small : a % suc b < suc b = mod-lt a (omega arith) in
     let rest = IsGcd-gcd_within_scaled turns k (suc b) (a % suc b) (omega arith) in
-    IsGcd-from_mod (k * a) (k * suc b) _ (let P : ℕ → Type 0 = λ x. IsGcd (k * suc b) x (k * gcd_within turns (suc b) (a % suc b)) in subst P (sym (mod_scaled k a (suc b) (omega arith))) rest)
+    IsGcd-from_mod (k * a) (k * suc b) _ (let P : ℕ → Type 0 = λ x. IsGcd (k * suc b) x (k * gcd_within turns (suc b) (a % suc b)) in subst P
+    (sym (mod_scaled k a (suc b) (omega arith))) rest)
 
 pub IsGcd-gcd_scaled : (k a b : ℕ) → IsGcd (k * a) (k * b) (k * gcd a b)
 unfolding gcd

@@ -68,7 +68,8 @@ same_signs (negsuc a) (pos c) p q hp hq e value = absurd (pos≢neg (c * p) (suc
 -- two fractions in lowest terms with one value are the same
 pub same_from_value : (f g : Fraction) → IsInLowestTerms f → IsInLowestTerms g → HasValue f g.num g.den → f ≡ g
 same_from_value f g p q value =
-    let sizes : unsigned_abs f.num * g.den ≡ unsigned_abs g.num * f.den = sym (unsigned_abs-mul f.num (pos g.den)) ∙ ap unsigned_abs value ∙ unsigned_abs-mul g.num (pos f.den) in
+    let sizes : unsigned_abs f.num * g.den ≡ unsigned_abs g.num * f.den = sym (unsigned_abs-mul f.num (pos g.den)) ∙ ap unsigned_abs value
+    ∙ unsigned_abs-mul g.num (pos f.den) in
     let same = same_ratio (unsigned_abs f.num) f.den (unsigned_abs g.num) g.den p.positive q.positive p.coprime q.coprime sizes in
     let nums : f.num ≡ g.num = same_signs f.num g.num f.den g.den p.positive q.positive same.0 value in
     let make : ℤ → ℕ → Fraction = λ n d. record { num = n; den = d } in
@@ -80,8 +81,10 @@ pub fraction_of-value : (f : Fraction) (n : ℤ) (d : ℕ) → IsInLowestTerms f
 fraction_of-value f n d low positive value =
     let g : Fraction = fraction_of n d in
     let reduced = fraction_of-reduced n d positive in
-    let size_f : unsigned_abs f.num * d ≡ unsigned_abs n * f.den = sym (unsigned_abs-mul f.num (pos d)) ∙ ap unsigned_abs value ∙ unsigned_abs-mul n (pos f.den) in
-    let size_g : unsigned_abs g.num * d ≡ unsigned_abs n * g.den = sym (unsigned_abs-mul g.num (pos d)) ∙ ap unsigned_abs reduced.exact ∙ unsigned_abs-mul n (pos g.den) in
+    let size_f : unsigned_abs f.num * d ≡ unsigned_abs n * f.den = sym (unsigned_abs-mul f.num (pos d)) ∙ ap unsigned_abs value
+    ∙ unsigned_abs-mul n (pos f.den) in
+    let size_g : unsigned_abs g.num * d ≡ unsigned_abs n * g.den = sym (unsigned_abs-mul g.num (pos d)) ∙ ap unsigned_abs reduced.exact
+    ∙ unsigned_abs-mul n (pos g.den) in
     let same = same_ratio (unsigned_abs g.num) g.den (unsigned_abs f.num) f.den reduced.lowest.positive low.positive reduced.lowest.coprime low.coprime
     (crosswise (unsigned_abs g.num) g.den (unsigned_abs f.num) f.den (unsigned_abs n) d positive size_g size_f) in
     let nums : g.num ≡ f.num = same_signs g.num f.num d d positive positive same.0 (reduced.exact ∙ ap (λ k. n *ℤ pos k) same.1 ∙ sym value) in
@@ -123,4 +126,5 @@ unfolding fraction_of
 fraction_of-signed negative n d =
     let make : ℤ → ℕ → Fraction = λ m k. record { num = m; den = k } in
     let size = unsigned_abs-signed negative n in
-    ap (λ k. make (without_factor (signed negative n) (gcd k d)) (d / gcd k d)) size ∙ ap (λ m. make m (d / gcd n d)) (without_factor-signed negative n (gcd n d))
+    ap (λ k. make (without_factor (signed negative n) (gcd k d)) (d / gcd k d)) size
+    ∙ ap (λ m. make m (d / gcd n d)) (without_factor-signed negative n (gcd n d))

@@ -1,5 +1,6 @@
 -- What the answer of reading a literal says of the bytes.
-use Rattle.std.proofs.Common.{◌≡◌, ◌≢◌, ℕ, zero, suc, ◌<◌, Bool, true, false, cond, ◌&&◌, eqb, List, Option, Some, None, Result, Ok, Err, refl, sym, ap, ◌∙◌, subst, arith}
+use Rattle.std.proofs.Common.{◌≡◌, ◌≢◌, ℕ, zero, suc, ◌<◌, Bool, true, false, cond, ◌&&◌, eqb, List, Option, Some, None, Result, Ok, Err, refl, sym, ap, ◌∙◌}
+use Rattle.std.proofs.Common.{subst, arith}
 use Rattle.std.specs.Prelude.{◌↔◌, nat_le}
 use Rattle.std.proofs.lemmas.Bool.{and_parts, and_from, leb-true, le-leb, eqb-true, eqb-false, eq-eqb, ne_eqb, false≢true, false_from_ne_true}
 use Rattle.def_fraction.specs.declared.fault.NumberFault.{NumberFault}
@@ -53,7 +54,8 @@ within_from_test l h =
 
 test_from_within : (l : Literal) → IsInRange l → within_test l ≡ true
 test_from_within l w =
-    and_from _ _ (and_from _ _ (le-leb (numerator l.body) most_written w.numerator_written) (le-leb (denominator l.body) most_written w.denominator_written)) w.in_lowest_terms
+    and_from _ _ (and_from _ _ (le-leb (numerator l.body) most_written w.numerator_written) (le-leb (denominator l.body) most_written w.denominator_written))
+    w.in_lowest_terms
 
 value_of-judged : (l : Literal) → Judged (eqb (denominator l.body) 0) (within_test l) (exact_value l) (value_of l)
 unfolding value_of

@@ -1,12 +1,14 @@
 -- What is read as a literal is spelled so, and what is spelled as a literal is read so.
-use Rattle.std.proofs.Common.{◌≡◌, ℕ, ◌≤◌, Bool, true, false, cond, ◌&&◌, ◌||◌, eqb, List, [], ◌∷◌, ◌++◌, length, Option, Some, None, refl, sym, ap, ◌∙◌, subst, inl, inr, ⊎_elim, arith, ◌⊎◌}
+use Rattle.std.proofs.Common.{◌≡◌, ℕ, ◌≤◌, Bool, true, false, cond, ◌&&◌, ◌||◌, eqb, List, [], ◌∷◌, ◌++◌, length, Option, Some, None, refl, sym, ap, ◌∙◌, subst}
+use Rattle.std.proofs.Common.{inl, inr, ⊎_elim, arith, ◌⊎◌}
 use Rattle.std.specs.Prelude.{◌↔◌, ⊤, IsTrue, nat_le, nat_lt}
 use Rattle.std.specs.Option.{option_map}
 use Rattle.std.specs.Char.{is_ascii_digit}
 use Rattle.std.specs.Str.{all_ascii_digits}
 use Rattle.std.proofs.lemmas.Bool.{and_parts, and_from, false≢true, eqb-true, ne_eqb, leb-true, le-leb}
 use Rattle.def_fraction.specs.Digits.{is_numeral, leading_digits, after_digits}
-use Rattle.def_fraction.specs.Literal.{point, slash, Sign, no_sign, plus_sign, minus_sign, Power, Body, quotient, decimal, Literal, sign_text, point_text, power_text, body_text, literal_text, digits_after, IsPower, IsBody, IsLiteral}
+use Rattle.def_fraction.specs.Literal.{point, slash, Sign, no_sign, plus_sign, minus_sign, Power, Body, quotient, decimal, Literal, sign_text, point_text}
+use Rattle.def_fraction.specs.Literal.{power_text, body_text, literal_text, digits_after, IsPower, IsBody, IsLiteral}
 use Rattle.def_fraction.specs.Reading.{sign_of, after_sign, power_of, decimal_of, body_after, body_of, literal_of}
 
 -- ---- digits
@@ -58,7 +60,8 @@ after_digits-append (d ∷ ds) rest p q =
 pub digits_split : (bs : List ℕ) → leading_digits bs ++ after_digits bs ≡ bs
 digits_split [] = refl
 digits_split (c ∷ cs) =
-    elim (is_ascii_digit c) as (λ b. cond b (c ∷ leading_digits cs) [] ++ cond b (after_digits cs) (c ∷ cs) ≡ c ∷ cs) [ true ↦ ap (λ xs. c ∷ xs) (digits_split cs) | false ↦ refl ]
+    elim (is_ascii_digit c) as (λ b. cond b (c ∷ leading_digits cs) [] ++ cond b (after_digits cs) (c ∷ cs) ≡ c ∷ cs)
+    [ true ↦ ap (λ xs. c ∷ xs) (digits_split cs) | false ↦ refl ]
 
 digits_if : (c : ℕ) (cs : List ℕ) (b : Bool) → is_ascii_digit c ≡ b → all_ascii_digits cs ≡ true
     → all_ascii_digits (cond b (c ∷ cs) []) ≡ true
@@ -145,12 +148,19 @@ body_of-text (quotient above below) h =
 body_of-text (decimal before None p) h =
     let digits = digits-parts before [] (and_parts (all_ascii_digits (before ++ [])) _ h.0).0 in
     let elsewhere = power-elsewhere p h.1 in
-    rw (leading_digits-append before (power_text p) digits.0 elsewhere, after_digits-append before (power_text p) digits.0 elsewhere) (body_after-power before p h.1 ∙ decimal_of-text before None p h.0 h.1)
+    rw (leading_digits-append before (power_text p) digits.0 elsewhere, after_digits-append before (power_text p) digits.0 elsewhere)
+    (body_after-power before p h.1 ∙ decimal_of-text before None p h.0 h.1)
 body_of-text (decimal before (Some after) p) h =
     let digits = digits-parts before after (and_parts (all_ascii_digits (before ++ after)) _ h.0).0 in
     let elsewhere = power-elsewhere p h.1 in
     let tail = point ∷ (after ++ power_text p) in
-    rw (leading_digits-append before tail digits.0 refl, after_digits-append before tail digits.0 refl, leading_digits-append after (power_text p) digits.1 elsewhere, after_digits-append after (power_text p) digits.1 elsewhere) (decimal_of-text before (Some after) p h.0 h.1)
+    rw (
+      leading_digits-append before tail digits.0 refl,
+      after_digits-append before tail digits.0 refl,
+      leading_digits-append after (power_text p) digits.1 elsewhere,
+      after_digits-append after (power_text p) digits.1 elsewhere,
+    )
+    (decimal_of-text before (Some after) p h.0 h.1)
 
 body-unsigned : (b : Body) → IsBody b → BeginsUnsigned (body_text b)
 body-unsigned (quotient [] below) h = (refl, refl)
@@ -233,7 +243,8 @@ decimal_of-spelled before after rest b p q h =
 
 body_if : (before : List ℕ) (c : ℕ) (cs : List ℕ) (b : Body) (s t : Bool) → eqb c 47 ≡ s → eqb c 46 ≡ t
     → all_ascii_digits before ≡ true
-    → cond s (cond (nat_lt 0 (length before) && is_numeral cs) (Some (quotient before cs)) None) (cond t (decimal_of before (Some (leading_digits cs)) (after_digits cs)) (decimal_of before None (c ∷ cs))) ≡ Some b
+    → cond s (cond (nat_lt 0 (length before) && is_numeral cs) (Some (quotient before cs)) None)
+    (cond t (decimal_of before (Some (leading_digits cs)) (after_digits cs)) (decimal_of before None (c ∷ cs))) ≡ Some b
     → Spells b (before ++ c ∷ cs)
 body_if before c cs b true t e f p h =
     let found = cond_some (nat_lt 0 (length before) && is_numeral cs) (Some (quotient before cs)) b h in
@@ -245,7 +256,8 @@ body_if before c cs b true t e f p h =
     })
 body_if before c cs b false true e f p h =
     let shown = decimal_of-spelled before (Some (leading_digits cs)) (after_digits cs) b p (leading_digits-digits cs) h in
-    let bytes : before ++ (point ∷ (leading_digits cs ++ after_digits cs)) ≡ before ++ c ∷ cs = ap (λ xs. before ++ (point ∷ xs)) (digits_split cs) ∙ ap (λ x. before ++ x ∷ cs) (sym (eqb-true c 46 f)) in
+    let bytes : before ++ (point ∷ (leading_digits cs ++ after_digits cs)) ≡ before ++ c ∷ cs = ap (λ xs. before ++ (point ∷ xs)) (digits_split cs)
+    ∙ ap (λ x. before ++ x ∷ cs) (sym (eqb-true c 46 f)) in
     record { formed = shown.formed; spelled = shown.spelled ∙ bytes }
 body_if before c cs b false false e f p h =
     let shown = decimal_of-spelled before None (c ∷ cs) b p refl h in

@@ -11,5 +11,6 @@ number_of-append [] ys = omega arith
 number_of-append (x ∷ xs) ys =
     let d = x - 48 in
     let power : 10 ^ length (xs ++ ys) ≡ 10 ^ length xs * 10 ^ length ys = ap (λ n. 10 ^ n) (length-append xs ys) ∙ pow-add 10 (length xs) (length ys) in
-    let first : d * 10 ^ length (xs ++ ys) ≡ d * 10 ^ length xs * 10 ^ length ys = ap (λ n. d * n) power ∙ sym (mul_assoc d (10 ^ length xs) (10 ^ length ys)) in
+    let first : d * 10 ^ length (xs ++ ys) ≡ d * 10 ^ length xs * 10 ^ length ys = ap (λ n. d * n) power
+    ∙ sym (mul_assoc d (10 ^ length xs) (10 ^ length ys)) in
     omega (arith, first, number_of-append xs ys)

@@ -63,7 +63,8 @@ orders_values f g h p q r =
       through = λ e i.
           let low = less_times a b h.den r.positive (int_ranked a b Less (sym e)) in
           let high = less_times c d f.den p.positive (int_ranked c d Less (sym i)) in
-          let long = chain (a *ℤ pos h.den) (b *ℤ pos h.den) (c *ℤ pos f.den) (d *ℤ pos f.den) ((f.num *ℤ pos h.den) *ℤ pos g.den) ((h.num *ℤ pos f.den) *ℤ pos g.den)
+          let long = chain (a *ℤ pos h.den) (b *ℤ pos h.den) (c *ℤ pos f.den) (d *ℤ pos f.den) ((f.num *ℤ pos h.den) *ℤ pos g.den)
+          ((h.num *ℤ pos f.den) *ℤ pos g.den)
           low high (times_turned g.num f.den h.den) (times_turned f.num g.den h.den) (times_turned h.num g.den f.den) in
           sym (int_cmp_is (f.num *ℤ pos h.den) (h.num *ℤ pos f.den) Less (less_from_times (f.num *ℤ pos h.den) (h.num *ℤ pos f.den) g.den q.positive long));
     }

@@ -1,5 +1,6 @@
 -- What is written of a fraction is read as the same fraction.
-use Rattle.std.proofs.Common.{◌≡◌, ℕ, suc, ◌+◌, ◌-◌, ◌*◌, ◌/◌, ◌%◌, ◌^◌, get_or, ◌<◌, ◌≤◌, Bool, true, false, cond, eqb, List, [], ◌∷◌, ◌++◌, length, Some, None, Ok, ℤ, pos, negsuc, unsigned_abs, refl, sym, ap, ◌∙◌, subst, arith, rules, append_assoc}
+use Rattle.std.proofs.Common.{◌≡◌, ℕ, suc, ◌+◌, ◌-◌, ◌*◌, ◌/◌, ◌%◌, ◌^◌, get_or, ◌<◌, ◌≤◌, Bool, true, false, cond, eqb, List, [], ◌∷◌, ◌++◌, length, Some}
+use Rattle.std.proofs.Common.{None, Ok, ℤ, pos, negsuc, unsigned_abs, refl, sym, ap, ◌∙◌, subst, arith, rules, append_assoc}
 use mathlib.Core.List.{append-nil}
 use Rattle.std.specs.Prelude.{IsTrue}
 use Rattle.std.specs.Char.{is_ascii_digit}
@@ -10,7 +11,8 @@ use Rattle.std.proofs.lemmas.Fmt.{digits_decimal, digits_value-decimal, decimal_
 use Rattle.std.proofs.lemmas.Bool.{and_parts, and_from, leb-true, le-leb, lt-ltb, eqb-true, ne_eqb}
 use Rattle.def_fraction.specs.Digits.{is_numeral, number_of}
 use Rattle.def_fraction.specs.Fraction.{Fraction, IsInLowestTerms, fraction_of, fits, signed}
-use Rattle.def_fraction.specs.Literal.{slash, no_sign, minus_sign, Sign, Body, quotient, decimal, Literal, literal_text, body_text, sign_text, IsBody, is_minus, numerator, denominator}
+use Rattle.def_fraction.specs.Literal.{slash, no_sign, minus_sign, Sign, Body, quotient, decimal, Literal, literal_text, body_text, sign_text, IsBody, is_minus}
+use Rattle.def_fraction.specs.Literal.{numerator, denominator}
 use Rattle.def_fraction.specs.Reading.{literal_of, value_of, read_as_literal}
 use Rattle.def_fraction.specs.Text.{int_text, fraction_text}
 use Rattle.def_fraction.proofs.FractionLemmas.{fraction_of-lowest}
@@ -46,10 +48,12 @@ int_text-split (pos n) = refl
 int_text-split (negsuc n) = refl
 
 text_if : (z : ℤ) (d : ℕ) (one : Bool)
-    → sign_text (sign_for z) ++ body_text (cond one (decimal (decimal_text (unsigned_abs z)) None None) (quotient (decimal_text (unsigned_abs z)) (decimal_text d)))
+    → sign_text (sign_for z) ++ body_text (cond one (decimal (decimal_text (unsigned_abs z)) None None)
+    (quotient (decimal_text (unsigned_abs z)) (decimal_text d)))
     ≡ cond one (int_text z) (int_text z ++ slash ∷ decimal_text d)
 text_if z d true = ap (λ xs. sign_text (sign_for z) ++ xs) (append-nil (decimal_text (unsigned_abs z))) ∙ sym (int_text-split z)
-text_if z d false = sym (append_assoc (sign_text (sign_for z)) (decimal_text (unsigned_abs z)) (slash ∷ decimal_text d)) ∙ ap (λ xs. xs ++ slash ∷ decimal_text d) (sym (int_text-split z))
+text_if z d false = sym (append_assoc (sign_text (sign_for z)) (decimal_text (unsigned_abs z)) (slash ∷ decimal_text d))
+    ∙ ap (λ xs. xs ++ slash ∷ decimal_text d) (sym (int_text-split z))
 
 literal_text-fraction : (f : Fraction) → literal_text (literal_for f) ≡ fraction_text f
 literal_text-fraction f = text_if f.num f.den (eqb f.den 1)
@@ -82,8 +86,10 @@ value_of-fraction f h w =
     let n : numerator (literal_for f).body ≡ unsigned_abs f.num = numerator_is (unsigned_abs f.num) f.den (eqb f.den 1) (omega arith) in
     let d : denominator (literal_for f).body ≡ f.den = denominator_is (unsigned_abs f.num) f.den (eqb f.den 1) refl (omega arith) in
     let positive = h.positive in
-    let exact : fraction_of (signed (is_minus (sign_for f.num)) (unsigned_abs f.num)) f.den ≡ f = ap (λ z. fraction_of z f.den) (signed_for f.num) ∙ fraction_of-lowest f h in
-    rw (n, d, exact, ne_eqb f.den 0 (λ e. omega arith), le-leb (unsigned_abs f.num) (2 ^ 127 - 1) (omega arith), le-leb f.den (2 ^ 127 - 1) (omega arith), w) refl
+    let exact : fraction_of (signed (is_minus (sign_for f.num)) (unsigned_abs f.num)) f.den ≡ f = ap (λ z. fraction_of z f.den) (signed_for f.num)
+    ∙ fraction_of-lowest f h in
+    rw (n, d, exact, ne_eqb f.den 0 (λ e. omega arith), le-leb (unsigned_abs f.num) (2 ^ 127 - 1) (omega arith), le-leb f.den (2 ^ 127 - 1) (omega arith), w)
+    refl
 
 -- the text of a fraction within the limit is read as this fraction
 pub read_as_literal-fraction_text : (f : Fraction) → IsInLowestTerms f → IsTrue (fits f)
@@ -93,7 +99,8 @@ read_as_literal-fraction_text f h w =
     let small = and_parts _ _ w in
     let above : unsigned_abs f.num ≤ 2 ^ 62 = leb-true (unsigned_abs f.num) (2 ^ 62) small.0 in
     let below : f.den ≤ 2 ^ 62 = leb-true f.den (2 ^ 62) small.1 in
-    let shown : literal_of (fraction_text f) ≡ Some (literal_for f) = ap literal_of (sym (literal_text-fraction f)) ∙ literal_of-text (literal_for f) (body_formed (unsigned_abs f.num) f.den (eqb f.den 1) (omega arith) (omega arith)) in
+    let shown : literal_of (fraction_text f) ≡ Some (literal_for f) = ap literal_of (sym (literal_text-fraction f))
+    ∙ literal_of-text (literal_for f) (body_formed (unsigned_abs f.num) f.den (eqb f.den 1) (omega arith) (omega arith)) in
     rw shown (value_of-fraction f h w)
 
 -- ---- the canonical text

@@ -1,5 +1,6 @@
 -- What the computed definitions compute, in the words of arithmetic and of number formats.
-use Rattle.std.specs.Prelude.{◌≡◌, ℕ, suc, ◌^◌, ◌<◌, ◌≤◌, ◌↔◌, List, [], ◌∷◌, slice_index, Some, Result, Ok, Err, ℤ, pos, negsuc, ◌*ℤ◌, unsigned_abs, IsTrue}
+use Rattle.std.specs.Prelude.{◌≡◌, ℕ, suc, ◌^◌, ◌<◌, ◌≤◌, ◌↔◌, List, [], ◌∷◌, slice_index, Some, Result, Ok, Err, ℤ}
+use Rattle.std.specs.Prelude.{pos, negsuc, ◌*ℤ◌, unsigned_abs, IsTrue}
 use Rattle.std.specs.declared.cmp.Ordering.TheVariants.{Less, Equal}
 use Rattle.std.specs.Ordering.{ordering_reverse}
 use Rattle.std.specs.Int.{IsGcd}
@@ -8,7 +9,8 @@ use Rattle.def_fraction.specs.declared.fault.NumberFault.TheVariants.{Form, Zero
 use Rattle.def_fraction.specs.Digits.{is_numeral, number_of}
 use Rattle.def_fraction.specs.Divisors.{gcd, lcm, IsLcm}
 use Rattle.def_fraction.specs.Fraction.{Fraction, IsInLowestTerms, fraction_of, order_of, fits}
-use Rattle.def_fraction.specs.Literal.{minus, Literal, IsLiteral, IsNoLiteral, HasZeroDenominator, IsPastLimits, IsLiteralOf}
+use Rattle.def_fraction.specs.Literal.{minus, Literal, IsLiteral, IsNoLiteral, HasZeroDenominator, IsPastLimits}
+use Rattle.def_fraction.specs.Literal.{IsLiteralOf}
 use Rattle.def_fraction.specs.Reading.{literal_of, read_as_literal}
 use Rattle.def_fraction.specs.Text.{int_text, fraction_text}
 

@@ -1,7 +1,8 @@
 -- The number literals of Gambit's .efg files, by their form and by their exact value: `10`, `-1/2`,
 -- `0.50`, `.5`, `5.`, `5e-1`. Gambit's manual ("The extensive game (.efg) file format") leaves the
 -- exact form open: this is the project's choice.
-use Rattle.std.specs.Prelude.{◌≡◌, ℕ, ◌+◌, ◌-◌, ◌*◌, ◌^◌, ◌<◌, ◌≤◌, Bool, true, false, List, [], ◌∷◌, ◌++◌, length, Option, Some, None, IsTrue, ◌⊎◌, ⊤, ℤ, if◌then◌else◌}
+use Rattle.std.specs.Prelude.{◌≡◌, ℕ, ◌+◌, ◌-◌, ◌*◌, ◌^◌, ◌<◌, ◌≤◌, Bool, true, false, List, [], ◌∷◌, ◌++◌, length}
+use Rattle.std.specs.Prelude.{Option, Some, None, IsTrue, ◌⊎◌, ⊤, ℤ, if◌then◌else◌}
 use Rattle.def_fraction.specs.Digits.{is_numeral, number_of}
 use Rattle.def_fraction.specs.Fraction.{Fraction, fraction_of, fits, signed}
 use Rattle.def_fraction.specs.declared.TheConstants.{MOST_WRITTEN}
@@ -79,7 +80,8 @@ digits_after (Some digits) = digits
 -- `e` or `E`, and one or two digits
 abbrev pub IsPower : Option Power → Type 0
 IsPower None = ⊤
-IsPower (Some p) = ((p.letter ≡ small_e) ⊎ (p.letter ≡ capital_e)) × IsTrue (is_numeral p.digits) × (length p.digits ≤ 2)
+IsPower (Some p) = ((p.letter ≡ small_e) ⊎ (p.letter ≡ capital_e)) × IsTrue (is_numeral p.digits)
+    × (length p.digits ≤ 2)
 
 -- in a decimal the digits before and after the point are together at least one
 abbrev pub IsBody : Body → Type 0

@@ -1,11 +1,14 @@
 -- Which literal bytes are, what value it has, and which fault comes first where it has none.
-use Rattle.std.specs.Prelude.{ℕ, ◌&&◌, ◌||◌, ◌==◌, nat_le, nat_lt, List, [], ◌∷◌, ◌++◌, length, Option, Some, None, Result, Ok, Err, if◌then◌else◌}
+use Rattle.std.specs.Prelude.{ℕ, ◌&&◌, ◌||◌, ◌==◌, nat_le, nat_lt, List, [], ◌∷◌, ◌++◌, length, Option, Some, None}
+use Rattle.std.specs.Prelude.{Result, Ok, Err, if◌then◌else◌}
 use Rattle.std.specs.Option.{option_map}
 use Rattle.def_fraction.specs.declared.fault.NumberFault.{NumberFault}
 use Rattle.def_fraction.specs.declared.fault.NumberFault.TheVariants.{Form, ZeroDenominator, Range}
 use Rattle.def_fraction.specs.Digits.{is_numeral, number_of, leading_digits, after_digits}
 use Rattle.def_fraction.specs.Fraction.{Fraction, fits, most}
-use Rattle.def_fraction.specs.Literal.{plus, minus, point, slash, small_e, capital_e, Sign, no_sign, plus_sign, minus_sign, Power, Body, quotient, decimal, Literal, digits_after, numerator, denominator, exact_value, most_written}
+use Rattle.def_fraction.specs.Literal.{plus, minus, point, slash, small_e, capital_e, Sign, no_sign, plus_sign}
+use Rattle.def_fraction.specs.Literal.{minus_sign, Power, Body, quotient, decimal, Literal, digits_after, numerator}
+use Rattle.def_fraction.specs.Literal.{denominator, exact_value, most_written}
 
 abbrev pub sign_of : List ℕ → Sign
 sign_of [] = no_sign
@@ -48,7 +51,8 @@ literal_of bytes = option_map (λ body. record { sign = sign_of bytes; body = bo
 unfoldable pub value_of : Literal → Result Fraction NumberFault
 value_of l =
     if denominator l.body == 0 then Err ZeroDenominator
-    else (if nat_le (numerator l.body) most_written && nat_le (denominator l.body) most_written && fits (exact_value l) then Ok (exact_value l)
+    else (if nat_le (numerator l.body) most_written && nat_le (denominator l.body) most_written
+    && fits (exact_value l) then Ok (exact_value l)
     else Err Range)
 
 abbrev pub value_if : Option Literal → Result Fraction NumberFault

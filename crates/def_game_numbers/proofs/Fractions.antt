@@ -13,5 +13,6 @@ tables_lowest game h = record {
   chance = All-map (λ row. All IsInLowestTerms row) chances_of game.sets.chance
       (All-weaker (λ (e : SetEntry). All IsSmallFraction (chances_of e)) (λ e. All IsInLowestTerms (chances_of e))
       (λ e all. All-weaker IsSmallFraction IsInLowestTerms (λ f small. small.0) (chances_of e) all) game.sets.chance h.chance);
-  outcomes = All-map (λ (p : PayoffPair). IsInLowestTerms p.one × IsInLowestTerms p.two) payoffs_given game.outcomes (λ k d there. ((h.one k d there).0, (h.two k d there).0));
+  outcomes = All-map (λ (p : PayoffPair). IsInLowestTerms p.one × IsInLowestTerms p.two) payoffs_given game.outcomes
+      (λ k d there. ((h.one k d there).0, (h.two k d there).0));
 }

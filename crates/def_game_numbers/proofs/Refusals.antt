@@ -38,7 +38,8 @@ refused_first game =
     let recall : Option RecallBreak = recall_break game.tree in
     let weights = weights_of_game (tables_of game) game.tree in
     record {
-      by_weighing = λ fault e. let found = refused numbers weights fault e in ap (λ o. as_file_fault (or_else o (of_recall recall))) found.1 ∙ ap Some (sym found.2);
+      by_weighing = λ fault e. let found = refused numbers weights fault e in ap (λ o. as_file_fault (or_else o (of_recall recall))) found.1
+          ∙ ap Some (sym found.2);
       by_sets = λ answer fault e f.
           ap (λ o. as_file_fault (or_else o (of_recall recall))) (accepted numbers weights answer e).0
           ∙ ap (λ o. as_file_fault (of_recall o)) (broken_by_break recall (tree_sets game.tree) fault f);
@@ -52,7 +53,8 @@ pub stands_on_answers : (game : GameFile) (answer : GameWeights) (sets : TreeSet
     → sets_or_break game.tree ≡ Ok sets → StandsOnAnswers game answer sets
 stands_on_answers game answer sets e f =
     let tree : Forest = game.tree in
-    let given : weights_of_game (tables_of game) tree ≡ answer = (accepted (number_fault (tables_of game) tree) (weights_of_game (tables_of game) tree) answer e).1 in
+    let given : weights_of_game (tables_of game) tree ≡ answer = (accepted (number_fault (tables_of game) tree) (weights_of_game (tables_of game) tree) answer
+    e).1 in
     let built : tree_sets tree ≡ sets = (unbroken (recall_break tree) (tree_sets tree) sets f).1 in
     record {
       form = ap (λ w. form_of tree w.leaves) (sym given);

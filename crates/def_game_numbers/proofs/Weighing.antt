@@ -52,7 +52,8 @@ only_weights : (tables : Tables) (tree : Forest) (a b : GameWeights) → AreWeig
     → AreWeights tables tree b → a ≡ b
 only_weights tables tree a b p q =
     let units : a.unit ≡ b.unit = dvd_antisymm (p.least b.unit q.multiple) (q.least a.unit p.multiple) in
-    let leaves : a.leaves ≡ b.leaves = one_weight tables b.unit (leaf_visits tree) a.leaves b.leaves (subst (λ u. AllZip (IsWeightOf tables u) (leaf_visits tree) a.leaves) units p.leaves) q.leaves in
+    let leaves : a.leaves ≡ b.leaves = one_weight tables b.unit (leaf_visits tree) a.leaves b.leaves
+    (subst (λ u. AllZip (IsWeightOf tables u) (leaf_visits tree) a.leaves) units p.leaves) q.leaves in
     let masses : a.mass ≡ b.mass = p.mass ∙ ap (λ ws. sum (map unsigned_abs ws)) leaves ∙ sym q.mass in
     λ i. record { sum = (p.sum_is ∙ sym q.sum_is) i; unit = units i; mass = masses i; leaves = leaves i }
 
@@ -86,7 +87,8 @@ each_in_sum (w ∷ ws) limit h =
 only_multiple : (m : ℕ) (f : Fraction) (v w : ℤ) → 1 ≤ f.den → IsMultiple m f v → IsMultiple m f w
     → unsigned_abs v ≡ unsigned_abs w
 only_multiple m f v w positive p q =
-    let sizes : unsigned_abs v * f.den ≡ unsigned_abs w * f.den = sym (unsigned_abs-mul v (pos f.den)) ∙ ap unsigned_abs (p ∙ sym q) ∙ unsigned_abs-mul w (pos f.den) in
+    let sizes : unsigned_abs v * f.den ≡ unsigned_abs w * f.den = sym (unsigned_abs-mul v (pos f.den)) ∙ ap unsigned_abs (p ∙ sym q)
+    ∙ unsigned_abs-mul w (pos f.den) in
     let size : ℤ → ℕ = unsigned_abs in
     let below : size v ≤ size w = le_of_mul-le-mul_right (subst (λ n. size v * f.den ≤ n) sizes (omega arith)) positive in
     let above : size w ≤ size v = le_of_mul-le-mul_right (subst (λ n. n ≤ size v * f.den) sizes (omega arith)) positive in
@@ -97,8 +99,10 @@ sum_within : (m : ℕ) (f : Fraction) (w : ℤ) → 1 ≤ m → m ≤ most → f
     → fits f ≡ true
 sum_within m f w some limit divides multiple within =
     let den : f.den ≤ m = le_of_dvd some divides in
-    let sizes : unsigned_abs w * f.den ≡ unsigned_abs f.num * m = sym (unsigned_abs-mul w (pos f.den)) ∙ ap unsigned_abs multiple ∙ unsigned_abs-mul f.num (pos m) in
-    let num : unsigned_abs f.num ≤ unsigned_abs w = le_of_mul-le-mul_right (subst (λ n. n ≤ unsigned_abs w * m) sizes (mul-le-mul_left (unsigned_abs w) den)) some in
+    let sizes : unsigned_abs w * f.den ≡ unsigned_abs f.num * m = sym (unsigned_abs-mul w (pos f.den)) ∙ ap unsigned_abs multiple
+    ∙ unsigned_abs-mul f.num (pos m) in
+    let num : unsigned_abs f.num ≤ unsigned_abs w = le_of_mul-le-mul_right (subst (λ n. n ≤ unsigned_abs w * m) sizes (mul-le-mul_left (unsigned_abs w) den))
+    some in
     and_from (nat_le (unsigned_abs f.num) most) (nat_le f.den most) (le-leb (unsigned_abs f.num) most (omega arith)) (le-leb f.den most (omega arith))
 
 -- the unit isn't 0, and the sum, the unit, the sum in the unit, the mass and each weight are within the limit

@@ -24,8 +24,9 @@ use Rattle.def_game_numbers.specs.Numbers.{GameWeights, file_fault, game_file_fa
 abbrev pub TablesAreFractions : Type 0
 TablesAreFractions = (game : GameFile) → HasFractions game.sets game.outcomes → AreFractions (tables_of game)
 
--- the sum is that of the first leaf's payoffs, the unit is the least common multiple of the denominators of the sum and of
--- reach times payoff, each leaf's weight is unit times reach times payoff, and the mass is the sum of the weights' sizes
+-- the sum is that of the first leaf's payoffs, the unit is the least common multiple of the denominators of the sum and
+-- of reach times payoff, each leaf's weight is unit times reach times payoff, and the mass is the sum of the weights'
+-- sizes
 pub record AreWeights (tables : Tables) (tree : Forest) (answer : GameWeights) : Type 0 where
   pub sum_is : answer.sum ≡ game_sum tables tree
   pub multiple : All (λ f. f.den ∣ answer.unit) (all_fractions tables tree)

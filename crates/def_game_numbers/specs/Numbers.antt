@@ -12,7 +12,8 @@ use Rattle.def_file.specs.Content.{GameFile, OutcomeEntry}
 use Rattle.def_file.specs.Game.{chances_of}
 use Rattle.def_game_scale.specs.Tables.{PayoffPair, Tables, game_sum}
 use Rattle.def_game_scale.specs.Scale.{game_mass, game_unit, weights}
-use Rattle.def_game_scale.specs.Faults.{GameFault, ChanceNegative, ChanceSum, NotConstantSum, NotRecall, Scale, game_fault, number_fault}
+use Rattle.def_game_scale.specs.Faults.{GameFault, ChanceNegative, ChanceSum, NotConstantSum, NotRecall, Scale}
+use Rattle.def_game_scale.specs.Faults.{game_fault, number_fault}
 
 abbrev pub payoffs_given : OutcomeEntry → PayoffPair
 payoffs_given outcome = record { one = outcome.one; two = outcome.two }
@@ -42,7 +43,12 @@ pub record GameWeights : Type 0 where
   pub leaves : List ℤ
 
 abbrev pub weights_of_game : Tables → Forest → GameWeights
-weights_of_game tables tree = record { sum = game_sum tables tree; unit = game_unit tables tree; mass = game_mass tables tree; leaves = weights tables tree }
+weights_of_game tables tree = record {
+  sum = game_sum tables tree;
+  unit = game_unit tables tree;
+  mass = game_mass tables tree;
+  leaves = weights tables tree;
+}
 
 abbrev pub refused_or : {A : Type 0} → Option GameFault → A → Result A FileFault
 refused_or None answer = Ok answer

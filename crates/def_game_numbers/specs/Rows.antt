@@ -15,7 +15,12 @@ use Rattle.def_game_numbers.specs.Numbers.{game_file_fault, weigh}
 -- a file's game, without texts
 
 abbrev set_with : List Fraction → SetEntry
-set_with chances = record { number = 1; name = None; actions = map (λ chance. record { name = []; chance = chance }) chances }
+set_with chances = record {
+  number = 1;
+  name = None;
+  actions = map (λ chance. record { name = []; chance = chance })
+      chances;
+}
 
 abbrev unnamed_outcome : PayoffPair → OutcomeEntry
 unnamed_outcome payoffs = record { number = 1; name = None; one = payoffs.one; two = payoffs.two }
@@ -35,14 +40,27 @@ pub record FileRows : Type 0 where
   pub another_sum : weigh (file_of examples.fraction_of_another_sum) ≡ Err (faults.NotConstantSum 3)
   pub whole_sum : weigh (file_of examples.whole_sum_past_limit) ≡ Err (faults.Scale 3)
   pub scale : weigh (file_of examples.rare_deals) ≡ Err (faults.Scale 3)
-  pub weights : weigh (file_of examples.biased_coin) ≡ Ok (record { sum = zero_fraction; unit = 3; mass = 7; leaves = pos 1 ∷ pos 6 ∷ [] })
-  pub weights_of_sum : weigh (file_of examples.fifth_together) ≡ Ok (record { sum = over (pos 1) 5; unit = 30; mass = 25; leaves = pos 15 ∷ pos 10 ∷ [] })
+  pub weights : weigh (file_of examples.biased_coin) ≡ Ok
+      (record { sum = zero_fraction; unit = 3; mass = 7; leaves = pos 1 ∷ pos 6 ∷ [] })
+  pub weights_of_sum : weigh (file_of examples.fifth_together)
+      ≡ Ok (record { sum = over (pos 1) 5; unit = 30; mass = 25; leaves = pos 15 ∷ pos 10 ∷ [] })
   pub recall : game_file_fault (file_of examples.first_in_set) ≡ Some (faults.NotRecall 7 4)
-  pub recall_weighed : weigh (file_of examples.first_in_set) ≡ Ok (record { sum = zero_fraction; unit = 1; mass = 0; leaves = pos 0 ∷ pos 0 ∷ pos 0 ∷ [] })
+  pub recall_weighed : weigh (file_of examples.first_in_set)
+      ≡ Ok (record { sum = zero_fraction; unit = 1; mass = 0; leaves = pos 0 ∷ pos 0 ∷ pos 0 ∷ [] })
   pub recall_broken : sets_or_break examples.first_in_set.tree ≡ Err (record { node = 7; earlier = 4 })
   pub sets : sets_or_break examples.other_before_choice.tree ≡ Ok (record {
-    one = record { sets = record { before = 0; actions = 2 } ∷ []; first_nodes = 2 ∷ []; at_nodes = 0 ∷ 0 ∷ 1 ∷ 2 ∷ 0 ∷ 1 ∷ 2 ∷ [] };
-    two = record { sets = record { before = 0; actions = 2 } ∷ []; first_nodes = 1 ∷ []; at_nodes = 0 ∷ 1 ∷ 1 ∷ 1 ∷ 2 ∷ 2 ∷ 2 ∷ [] };
+    one = record {
+      sets = record { before = 0; actions = 2 } ∷ [];
+      first_nodes = 2 ∷ [];
+      at_nodes = 0 ∷ 0 ∷ 1 ∷ 2 ∷ 0
+          ∷ 1 ∷ 2 ∷ [];
+    };
+    two = record {
+      sets = record { before = 0; actions = 2 } ∷ [];
+      first_nodes = 1 ∷ [];
+      at_nodes = 0 ∷ 1 ∷ 1 ∷ 1 ∷ 2
+          ∷ 2 ∷ 2 ∷ [];
+    };
     next_nodes = None ∷ Some 5 ∷ None ∷ None ∷ None ∷ None ∷ None ∷ [];
   })
 
@@ -58,8 +76,12 @@ pub record HasHead (game : Example) (nodes leaves sets_one sets_two sequences_on
   pub form_is : (form_of_game game.tables game.tree).leaves ≡ form_leaves
 
 pub record HeadRows : Type 0 where
-  pub thirds_of_one : HasHead examples.thirds_of_one 4 3 0 0 1 1 (weighted 0 0 (pos 0) ∷ weighted 0 0 (pos 0) ∷ weighted 0 0 (pos 0) ∷ [])
+  pub thirds_of_one : HasHead examples.thirds_of_one 4 3 0 0 1 1
+      (weighted 0 0 (pos 0) ∷ weighted 0 0 (pos 0) ∷ weighted 0 0 (pos 0) ∷ [])
   pub biased_coin : HasHead examples.biased_coin 3 2 0 0 1 1 (weighted 0 0 (pos 1) ∷ weighted 0 0 (pos 6) ∷ [])
-  pub mass_at_limit : HasHead examples.mass_at_limit 3 2 1 0 3 1 (weighted 1 0 (pos 4611686018427387903) ∷ weighted 2 0 (negsuc 0) ∷ [])
-  pub coin_before_choice : HasHead examples.coin_before_choice 7 4 1 0 3 1 (weighted 1 0 (pos 0) ∷ weighted 2 0 (pos 0) ∷ weighted 1 0 (pos 0) ∷ weighted 2 0 (pos 0) ∷ [])
-  pub other_before_choice : HasHead examples.other_before_choice 7 4 1 1 3 3 (weighted 1 1 (pos 0) ∷ weighted 2 1 (pos 0) ∷ weighted 1 2 (pos 0) ∷ weighted 2 2 (pos 0) ∷ [])
+  pub mass_at_limit : HasHead examples.mass_at_limit 3 2 1 0 3 1
+      (weighted 1 0 (pos 4611686018427387903) ∷ weighted 2 0 (negsuc 0) ∷ [])
+  pub coin_before_choice : HasHead examples.coin_before_choice 7 4 1 0 3 1
+      (weighted 1 0 (pos 0) ∷ weighted 2 0 (pos 0) ∷ weighted 1 0 (pos 0) ∷ weighted 2 0 (pos 0) ∷ [])
+  pub other_before_choice : HasHead examples.other_before_choice 7 4 1 1 3 3
+      (weighted 1 1 (pos 0) ∷ weighted 2 1 (pos 0) ∷ weighted 1 2 (pos 0) ∷ weighted 2 2 (pos 0) ∷ [])

@@ -1,5 +1,6 @@
 -- Where perfect recall fails first.
-use Rattle.std.proofs.Common.{◌≡◌, ◌≢◌, ℕ, zero, suc, ◌+◌, ◌-◌, ◌<◌, ◌≤◌, Bool, true, false, cond, not, ◌&&◌, List, [], ◌∷◌, length, get_or, refl, ap, sym, subst, ◌∙◌, arith, Some, None, inl, inr, ◌⊎◌}
+use Rattle.std.proofs.Common.{◌≡◌, ◌≢◌, ℕ, zero, suc, ◌+◌, ◌-◌, ◌<◌, ◌≤◌, Bool, true, false, cond, not, ◌&&◌, List, [], ◌∷◌, length, get_or, refl, ap, sym}
+use Rattle.std.proofs.Common.{subst, ◌∙◌, arith, Some, None, inl, inr, ◌⊎◌}
 use Rattle.std.specs.Prelude.{Option, nat_eq}
 use Rattle.std.proofs.lemmas.Bool.{and_from, and_parts, cases_lt, eqb-true, eq-eqb}
 use Rattle.def_tree.specs.declared.Kind.TheVariants.{Leaf}
@@ -8,7 +9,8 @@ use Rattle.def_tree.specs.Tree.{Forest}
 use Rattle.def_tree.specs.Rules.{is_same_kind}
 use Rattle.def_tree.proofs.Sets.{is_same_kind_refl, is_same_kind-true}
 use Rattle.def_game_paths.specs.Paths.{Visit, visits, Choice}
-use Rattle.def_game_paths.specs.Recall.{is_personal, past, HasPerfectRecall, is_same_set, is_same_choices, Numbered, first_of_set, RecallBreak, break_against, break_or, first_break, differ_in_past, recall_break, BreaksRecall, IsFirstBreak}
+use Rattle.def_game_paths.specs.Recall.{is_personal, past, HasPerfectRecall, is_same_set, is_same_choices, Numbered, first_of_set, RecallBreak, break_against}
+use Rattle.def_game_paths.specs.Recall.{break_or, first_break, differ_in_past, recall_break, BreaksRecall, IsFirstBreak}
 
 -- two lists of choices that pass the test of sameness are equal
 pub same_choices : (xs ys : List Choice) → is_same_choices xs ys ≡ true → xs ≡ ys
@@ -56,7 +58,8 @@ HasFirst k node vs d (Some found) = (place : ℕ) × IsFirstAt k node vs d found
 pub first_found : (k : ℕ) (node : Node) (vs : List Visit) (d : Visit) → HasFirst k node vs d (first_of_set k node vs)
 first_found k node [] d = λ i h. absurd (omega arith)
 first_found k node (v ∷ rest) d =
-    elim (is_same_set v.node node) as (λ b. is_same_set v.node node ≡ b → HasFirst k node (v ∷ rest) d (cond b (Some (record { number = k; visit = v })) (first_of_set (k + 1) node rest))) [
+    elim (is_same_set v.node node) as (λ b. is_same_set v.node node ≡ b → HasFirst k node (v ∷ rest) d
+    (cond b (Some (record { number = k; visit = v })) (first_of_set (k + 1) node rest))) [
       | true ↦ λ same. (0, record { number = omega arith; there = omega arith; visit = refl; same = same; before = λ i h. absurd (omega arith) })
       | false ↦ λ other.
           elim (first_of_set (k + 1) node rest) as (λ r. HasFirst (k + 1) node rest d r → HasFirst k node (v ∷ rest) d r) [
@@ -101,10 +104,12 @@ break_or_some (Some first) b broken e = inl e
 scan_none : (all : List Visit) (k : ℕ) (rest : List Visit) (d : Visit) → first_break differ_in_past all k rest ≡ None
     → (i : ℕ) → i < length rest → break_of all (k + i) (get_or rest i d) ≡ None
 scan_none all k [] d e i h = absurd (omega arith)
-scan_none all k (v ∷ rest) d e zero h = let here : k + 0 ≡ k = omega arith in ap (λ n. break_of all n v) here ∙ (break_or_none (break_of all k v) (first_break differ_in_past all (k + 1) rest) e).0
+scan_none all k (v ∷ rest) d e zero h = let here : k + 0 ≡ k = omega arith in ap (λ n. break_of all n v) here
+    ∙ (break_or_none (break_of all k v) (first_break differ_in_past all (k + 1) rest) e).0
 scan_none all k (v ∷ rest) d e (suc i) h =
     let there : k + suc i ≡ k + 1 + i = omega arith in
-    ap (λ n. break_of all n (get_or rest i d)) there ∙ scan_none all (k + 1) rest d (break_or_none (break_of all k v) (first_break differ_in_past all (k + 1) rest) e).1 i (omega arith)
+    ap (λ n. break_of all n (get_or rest i d)) there ∙ scan_none all (k + 1) rest d
+    (break_or_none (break_of all k v) (first_break differ_in_past all (k + 1) rest) e).1 i (omega arith)
 
 record Scan (all : List Visit) (k : ℕ) (rest : List Visit) (d : Visit) (broken : RecallBreak) (place : ℕ) : Type 0 where
   there : place < length rest
@@ -134,14 +139,16 @@ scan_some all k (v ∷ rest) d broken e =
         → break_of all k v ≡ None → ((i : ℕ) → i < place → break_of all (k + 1 + i) (get_or rest i d) ≡ None) →
         (i : ℕ) → i < suc place → break_of all (k + i) (get_or (v ∷ rest) i d) ≡ None
     scan_before all k v rest d place none before zero h = let here : k + 0 ≡ k = omega arith in ap (λ n. break_of all n v) here ∙ none
-    scan_before all k v rest d place none before (suc i) h = let far : k + suc i ≡ k + 1 + i = omega arith in ap (λ n. break_of all n (get_or rest i d)) far ∙ before i (omega arith)
+    scan_before all k v rest d place none before (suc i) h = let far : k + suc i ≡ k + 1 + i = omega arith in ap (λ n. break_of all n (get_or rest i d)) far
+        ∙ before i (omega arith)
 
 -- where a player's node has no break with its set's first node, the player made the same choices before both
 pub no_break_some : (k : ℕ) (v : Visit) (first : Numbered) → break_against differ_in_past k v (Some first) ≡ None
     → is_personal v.node.kind ≡ true → past first.visit ≡ past v
 no_break_some k v first e personal =
     let broken : Option RecallBreak = Some (record { node = k; earlier = first.number }) in
-    elim (is_same_choices (past first.visit) (past v)) as (λ b. is_same_choices (past first.visit) (past v) ≡ b → cond (is_personal v.node.kind && not b) broken None ≡ None → past first.visit ≡ past v) [
+    elim (is_same_choices (past first.visit) (past v)) as (λ b. is_same_choices (past first.visit) (past v) ≡ b
+    → cond (is_personal v.node.kind && not b) broken None ≡ None → past first.visit ≡ past v) [
       | true ↦ λ same h. same_choices (past first.visit) (past v) same
       | false ↦ λ other h.
           let h' : broken ≡ None = subst (λ p. cond (p && true) broken None ≡ None) personal h in
@@ -156,12 +163,14 @@ break_some : (k : ℕ) (v : Visit) (first : Numbered) (broken : RecallBreak)
     → break_against differ_in_past k v (Some first) ≡ Some broken →
     (record { node = k; earlier = first.number } ≡ broken) × (is_personal v.node.kind ≡ true) × (past first.visit ≢ past v)
 break_some k v first broken e =
-    let found = cond_some (is_personal v.node.kind && not (is_same_choices (past first.visit) (past v))) (record { node = k; earlier = first.number }) broken e in
+    let found = cond_some (is_personal v.node.kind && not (is_same_choices (past first.visit) (past v))) (record { node = k; earlier = first.number }) broken
+    e in
     let parts = and_parts (is_personal v.node.kind) (not (is_same_choices (past first.visit) (past v))) found.0 in (
       found.1,
       parts.0,
       λ same.
-          let yes : is_same_choices (past first.visit) (past v) ≡ true = ap (is_same_choices (past first.visit)) (sym same) ∙ is_same_choices_refl (past first.visit) in
+          let yes : is_same_choices (past first.visit) (past v) ≡ true = ap (is_same_choices (past first.visit)) (sym same)
+          ∙ is_same_choices_refl (past first.visit) in
           let no : not true ≡ true = ap not (sym yes) ∙ parts.1 in
           cc no,
     )
@@ -171,13 +180,15 @@ pub first_of_set_same : (k : ℕ) (x y : Node) (vs : List Visit) → x.kind ≡ 
     → first_of_set k x vs ≡ first_of_set k y vs
 first_of_set_same k x y [] kinds sets = refl
 first_of_set_same k x y (v ∷ rest) kinds sets =
-    λ i. cond (is_same_kind v.node.kind (kinds i) && nat_eq v.node.set (sets i)) (Some (record { number = k; visit = v })) (first_of_set_same (k + 1) x y rest kinds sets i)
+    λ i. cond (is_same_kind v.node.kind (kinds i) && nat_eq v.node.set (sets i)) (Some (record { number = k; visit = v }))
+    (first_of_set_same (k + 1) x y rest kinds sets i)
 
 same_past : (k l : ℕ) (v w : Visit) (all : List Visit) (d : Visit) (i : ℕ) (o : Option Numbered) → i < length all
     → v ≡ get_or all i d → HasFirst 1 v.node all d o → is_personal v.node.kind ≡ true → is_personal w.node.kind ≡ true →
     break_against differ_in_past k v o ≡ None → break_against differ_in_past l w o ≡ None → past v ≡ past w
 same_past k l v w all d i None there is none pv pw e f =
-    let yes : is_same_set (get_or all i d).node v.node ≡ true = is_same_set_by (get_or all i d).node v.node (ap (λ x. x.node.kind) (sym is)) (ap (λ x. x.node.set) (sym is)) in
+    let yes : is_same_set (get_or all i d).node v.node ≡ true = is_same_set_by (get_or all i d).node v.node (ap (λ x. x.node.kind) (sym is))
+    (ap (λ x. x.node.set) (sym is)) in
     let no : true ≡ false = sym yes ∙ none i there in
     cc no
 same_past k l v w all d i (Some first) there is found pv pw e f = sym (no_break_some k v first e pv) ∙ no_break_some l w first f pw
@@ -191,7 +202,8 @@ recall_of_none tree e i j d below there personal kinds sets =
     let none_v : break_of all (1 + i) v ≡ None = scan_none all 1 all d e i (omega arith) in
     let none_w : break_of all (1 + j) w ≡ None = scan_none all 1 all d e j there in
     let same : first_of_set 1 v.node all ≡ first_of_set 1 w.node all = first_of_set_same 1 v.node w.node all kinds sets in
-    same_past (1 + i) (1 + j) v w all d i (first_of_set 1 v.node all) (omega arith) refl (first_found 1 v.node all d) personal (ap is_personal (sym kinds) ∙ personal) none_v (ap (break_against differ_in_past (1 + j) w) same ∙ none_w)
+    same_past (1 + i) (1 + j) v w all d i (first_of_set 1 v.node all) (omega arith) refl (first_found 1 v.node all d) personal
+    (ap is_personal (sym kinds) ∙ personal) none_v (ap (break_against differ_in_past (1 + j) w) same ∙ none_w)
 
 -- a place of the scan breaks recall
 breaks_at : (all : List Visit) (d : Visit) (broken : RecallBreak) (j : ℕ) (o : Option Numbered) → j < length all
@@ -237,13 +249,15 @@ none_of_recall tree recall =
           let all : List Visit = visits tree in
           let d : Visit = record { path = []; node = record { kind = Leaf; set = 0; outcome = 0; children = 0 } } in
           let found = scan_some all 1 all d broken e in
-          let breaks = breaks_at all d broken found.0 (first_of_set 1 (get_or all found.0 d).node all) found.1.there (first_found 1 (get_or all found.0 d).node all d) found.1.is in
+          let breaks = breaks_at all d broken found.0 (first_of_set 1 (get_or all found.0 d).node all) found.1.there
+          (first_found 1 (get_or all found.0 d).node all d) found.1.is in
           let alike = same_set (get_or all (broken.earlier - 1) d).node (get_or all (broken.node - 1) d).node breaks.set in
           let range = breaks.in_range in
           let low : 1 ≤ broken.earlier = range.0 in
           let below : broken.earlier < broken.node = range.1 in
           let high : broken.node ≤ length all = range.2 in
-          absurd (breaks.differs (recall (broken.earlier - 1) (broken.node - 1) d (omega arith) (omega arith) (ap is_personal alike.0 ∙ breaks.personal) alike.0 alike.1))
+          absurd (breaks.differs (recall (broken.earlier - 1) (broken.node - 1) d (omega arith) (omega arith) (ap is_personal alike.0 ∙ breaks.personal) alike.0
+          alike.1))
     ] refl
 
 no_earlier : (all : List Visit) (d : Visit) (m : ℕ) (other : RecallBreak) (o : Option Numbered) → other.node ≡ 1 + m
@@ -255,21 +269,26 @@ no_earlier all d m other None number breaks none e =
     let low : 1 ≤ other.earlier = range.0 in
     let below : other.earlier < other.node = range.1 in
     let high : other.node ≤ length all = range.2 in
-    let no : true ≡ false = sym breaks.set ∙ ap (λ x. is_same_set (get_or all (other.earlier - 1) d).node x.node) at_node ∙ none (other.earlier - 1) (omega arith) in
+    let no : true ≡ false = sym breaks.set ∙ ap (λ x. is_same_set (get_or all (other.earlier - 1) d).node x.node) at_node
+    ∙ none (other.earlier - 1) (omega arith) in
     cc no
 no_earlier all d m other (Some first) number breaks found e =
     let at_node : get_or all (other.node - 1) d ≡ get_or all m d = ap (λ n. get_or all n d) (omega arith) in
     let range = breaks.in_range in
     let low : 1 ≤ other.earlier = range.0 in
-    let same : past first.visit ≡ past (get_or all m d) = no_break_some (1 + m) (get_or all m d) first e (ap (λ x. is_personal x.node.kind) (sym at_node) ∙ breaks.personal) in
+    let same : past first.visit ≡ past (get_or all m d) = no_break_some (1 + m) (get_or all m d) first e
+    (ap (λ x. is_personal x.node.kind) (sym at_node) ∙ breaks.personal) in
     let p : ℕ = found.0 in
-    let here : is_same_set (get_or all p d).node (get_or all m d).node ≡ true = ap (λ x. is_same_set x.node (get_or all m d).node) (sym found.1.visit) ∙ found.1.same in
-    let there : is_same_set (get_or all (other.earlier - 1) d).node (get_or all m d).node ≡ true = ap (λ x. is_same_set (get_or all (other.earlier - 1) d).node x.node) (sym at_node) ∙ breaks.set in
+    let here : is_same_set (get_or all p d).node (get_or all m d).node ≡ true = ap (λ x. is_same_set x.node (get_or all m d).node) (sym found.1.visit)
+    ∙ found.1.same in
+    let there : is_same_set (get_or all (other.earlier - 1) d).node (get_or all m d).node
+    ≡ true = ap (λ x. is_same_set (get_or all (other.earlier - 1) d).node x.node) (sym at_node) ∙ breaks.set in
     elim (cases_lt (other.earlier - 1) p) [
       | inl before ↦ let no : true ≡ false = sym there ∙ found.1.before (other.earlier - 1) before in cc no
       | inr past_it ↦ elim (cases_lt p (other.earlier - 1)) [
         | inl earlier ↦
-            let none : is_same_set (get_or all (p + 1 - 1) d).node (get_or all (other.node - 1) d).node ≡ false = breaks.first (p + 1) (omega arith) (omega arith) in
+            let none : is_same_set (get_or all (p + 1 - 1) d).node (get_or all (other.node - 1) d).node
+            ≡ false = breaks.first (p + 1) (omega arith) (omega arith) in
             let index : p + 1 - 1 ≡ p = omega arith in
             let no : true ≡ false = sym here ∙ (λ i. is_same_set (get_or all (sym index i) d).node (sym at_node i).node) ∙ none in
             cc no
@@ -290,7 +309,8 @@ pub break_first : (tree : Forest) (d : Visit) (broken : RecallBreak) → recall_
 break_first tree d broken e =
     let all : List Visit = visits tree in
     let found = scan_some all 1 all d broken e in
-    let breaks = breaks_at all d broken found.0 (first_of_set 1 (get_or all found.0 d).node all) found.1.there (first_found 1 (get_or all found.0 d).node all d) found.1.is in
+    let breaks = breaks_at all d broken found.0 (first_of_set 1 (get_or all found.0 d).node all) found.1.there (first_found 1 (get_or all found.0 d).node all d)
+    found.1.is in
     record {
       breaks = breaks;
       first = λ other it_breaks. elim (cases_lt other.node broken.node) [
@@ -301,6 +321,7 @@ break_first tree d broken e =
             let low : 1 ≤ other.earlier = range.0 in
             let below : other.earlier < other.node = range.1 in
             let m : ℕ = other.node - 1 in
-            absurd (no_earlier all d m other (first_of_set 1 (get_or all m d).node all) (omega arith) it_breaks (first_found 1 (get_or all m d).node all d) (found.1.before m (omega arith)))
+            absurd (no_earlier all d m other (first_of_set 1 (get_or all m d).node all) (omega arith) it_breaks (first_found 1 (get_or all m d).node all d)
+            (found.1.before m (omega arith)))
       ];
     }

@@ -1,5 +1,6 @@
 -- The number of a sequence names the set and the action at which it ends.
-use Rattle.std.proofs.Common.{◌≡◌, ℕ, zero, suc, ◌+◌, ◌-◌, ◌<◌, ◌≤◌, true, false, cond, List, [], ◌∷◌, length, get_or, take, refl, ap, sym, subst, ◌∙◌, arith, Some}
+use Rattle.std.proofs.Common.{◌≡◌, ℕ, zero, suc, ◌+◌, ◌-◌, ◌<◌, ◌≤◌, true, false, cond, List, [], ◌∷◌, length, get_or, take, refl, ap, sym, subst, ◌∙◌, arith}
+use Rattle.std.proofs.Common.{Some}
 use Rattle.std.specs.Prelude.{IsSome, nat_lt, sum}
 use Rattle.std.proofs.lemmas.Bool.{lt-ltb, le-ltb, ltb-true, ltb-false}
 use Rattle.std.proofs.lemmas.List.Sums.{sum_by-cons}
@@ -14,7 +15,8 @@ named_from [] base i choice there set some limit = absurd (omega arith)
 named_from (size ∷ rest) base zero choice there set some limit =
     let number : 0 + (choice.action - 1) + 1 ≡ choice.action = omega arith in
     let same : base ≡ choice.set = omega arith in
-    ap (λ b. cond b (Some (record { set = base; action = 0 + (choice.action - 1) + 1 })) (choice_from (base + 1) rest (0 + (choice.action - 1) - size))) (lt-ltb (0 + (choice.action - 1)) size (omega arith))
+    ap (λ b. cond b (Some (record { set = base; action = 0 + (choice.action - 1) + 1 })) (choice_from (base + 1) rest (0 + (choice.action - 1) - size)))
+    (lt-ltb (0 + (choice.action - 1)) size (omega arith))
     ∙ (λ i. Some (record { set = same i; action = number i }))
 named_from (size ∷ rest) base (suc i) choice there set some limit =
     let n : ℕ = sum (take (suc i) (size ∷ rest)) + (choice.action - 1) in
@@ -35,7 +37,8 @@ names_from : (sizes : List ℕ) (base n : ℕ) (choice : Choice) → choice_from
     → (i : ℕ) × Named sizes base n choice i
 names_from [] base n choice e = cc
 names_from (size ∷ rest) base n choice e =
-    elim (nat_lt n size) as (λ b. nat_lt n size ≡ b → cond b (Some (record { set = base; action = n + 1 })) (choice_from (base + 1) rest (n - size)) ≡ Some choice → (i : ℕ) × Named (size ∷ rest) base n choice i) [
+    elim (nat_lt n size) as (λ b. nat_lt n size ≡ b → cond b (Some (record { set = base; action = n + 1 })) (choice_from (base + 1) rest (n - size))
+    ≡ Some choice → (i : ℕ) × Named (size ∷ rest) base n choice i) [
       | true ↦ λ below shown.
           let set : base ≡ choice.set = cc in
           let action : n + 1 ≡ choice.action = cc in
@@ -72,7 +75,12 @@ of_number sizes (suc n) choice e =
     let index : choice.set - 1 ≡ found.0 = omega arith in
     let number : sum (take found.0 sizes) + (choice.action - 1) ≡ n = found.1.number in
     let same : sum (take (choice.set - 1) sizes) ≡ sum (take found.0 sizes) = ap (λ i. sum (take i sizes)) index in (
-      record { counts = omega arith; known = omega arith; some = found.1.some; limit = subst (λ i. choice.action ≤ get_or sizes i 0) (sym index) found.1.limit },
+      record {
+        counts = omega arith;
+        known = omega arith;
+        some = found.1.some;
+        limit = subst (λ i. choice.action ≤ get_or sizes i 0) (sym index) found.1.limit;
+      },
       omega arith,
     )
 

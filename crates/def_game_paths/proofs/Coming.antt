@@ -32,7 +32,8 @@ next_visit tree n game there =
     let on : suc n ≡ n + 1 = omega arith in
     let cons : drop n all ≡ v ∷ drop (n + 1) all = drop-cons all n no_visit here ∙ ap (λ m. v ∷ drop m all) on in
     let parts : map visited_node (take n all) ++ v.node ∷ map visited_node (drop (n + 1) all) ≡ prefix tree =
-    ap (λ vs. map visited_node (take n all) ++ map visited_node vs) (sym cons) ∙ sym (map-append visited_node (take n all) (drop n all)) ∙ ap (map visited_node) (take-append-drop n all) ∙ nodes in
+    ap (λ vs. map visited_node (take n all) ++ map visited_node vs) (sym cons) ∙ sym (map-append visited_node (take n all) (drop n all))
+    ∙ ap (map visited_node) (take-append-drop n all) ∙ nodes in
     record {
       there = here;
       cons = cons;

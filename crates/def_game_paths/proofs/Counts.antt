@@ -1,5 +1,6 @@
 -- The own choices on a path are actions of the player's sets; and sets and sequences are no more than nodes.
-use Rattle.std.proofs.Common.{◌≡◌, ℕ, suc, ◌+◌, ◌-◌, ◌<◌, ◌≤◌, true, false, cond, ◌&&◌, List, [], ◌∷◌, ◌++◌, length, get_or, take, map, refl, ap, sym, subst, ◌∙◌, arith, length-append}
+use Rattle.std.proofs.Common.{◌≡◌, ℕ, suc, ◌+◌, ◌-◌, ◌<◌, ◌≤◌, true, false, cond, ◌&&◌, List, [], ◌∷◌, ◌++◌, length, get_or, take, map, refl, ap, sym, subst}
+use Rattle.std.proofs.Common.{◌∙◌, arith, length-append}
 use Rattle.std.specs.Prelude.{sum, nat_eq, All}
 use Rattle.std.proofs.lemmas.Bool.{and_parts}
 use Rattle.std.proofs.lemmas.List.{get_or-map, length-map, map-append}
@@ -60,7 +61,8 @@ firsts_all P kind seen (v ∷ rest) all =
     All P (cond b (v ∷ set_firsts kind (seen + 1) rest) (set_firsts kind seen rest))) [
       | true ↦ λ first.
           let parts = and_parts (is_same_kind kind v.node.kind) (nat_eq v.node.set (seen + 1)) first in
-          All-cons P v (set_firsts kind (seen + 1) rest) (All-head (λ w. w.node.kind ≡ kind → P w) v rest all (is_same_kind-true kind v.node.kind parts.0)) (firsts_all P kind (seen + 1) rest later)
+          All-cons P v (set_firsts kind (seen + 1) rest) (All-head (λ w. w.node.kind ≡ kind → P w) v rest all (is_same_kind-true kind v.node.kind parts.0))
+          (firsts_all P kind (seen + 1) rest later)
       | false ↦ λ other. firsts_all P kind seen rest later
     ] refl
 
@@ -70,7 +72,8 @@ HasActions node = (1 ≤ node.children) × (node.children ≤ 1024)
 nodes_have : (kind : Kind) (nodes : List Node) → is_leaf_kind kind ≡ false → KeepRules nodes
     → All (λ node. node.kind ≡ kind → HasActions node) nodes
 nodes_have kind nodes inner keep k d there is =
-    let joins : JoinsSet (take k nodes) (get_or nodes k d) = joins_of kind (take k nodes) (get_or nodes k d) inner is (subst (λ h. FitsAs h (take k nodes) (get_or nodes k d)) is (keep k d there)) in
+    let joins : JoinsSet (take k nodes) (get_or nodes k d) = joins_of kind (take k nodes) (get_or nodes k d) inner is
+    (subst (λ h. FitsAs h (take k nodes) (get_or nodes k d)) is (keep k d there)) in
     (joins.some, joins.limit)
 
 -- each first node of a set has 1 to 1,024 children
@@ -109,7 +112,8 @@ firsts_sum : (kind : Kind) (seen : ℕ) (vs : List Visit)
     → sum (map size_of (set_firsts kind seen vs)) ≤ sum (map children_of (map visited_node vs))
 firsts_sum kind seen [] = omega arith
 firsts_sum kind seen (v ∷ rest) =
-    let whole : sum (map children_of (map visited_node (v ∷ rest))) ≡ v.node.children + sum (map children_of (map visited_node rest)) = sum_by-cons (λ n. n) v.node.children (map children_of (map visited_node rest)) in
+    let whole : sum (map children_of (map visited_node (v ∷ rest))) ≡ v.node.children
+    + sum (map children_of (map visited_node rest)) = sum_by-cons (λ n. n) v.node.children (map children_of (map visited_node rest)) in
     elim (is_same_kind kind v.node.kind && nat_eq v.node.set (seen + 1)) as (λ b.
     sum (map size_of (cond b (v ∷ set_firsts kind (seen + 1) rest) (set_firsts kind seen rest))) ≤ sum (map children_of (map visited_node (v ∷ rest)))) [
       | true ↦ omega (arith, firsts_sum kind (seen + 1) rest, sum_by-cons (λ n. n) v.node.children (map size_of (set_firsts kind (seen + 1) rest)))
@@ -119,7 +123,8 @@ firsts_sum kind seen (v ∷ rest) =
 firsts_length : (kind : Kind) (seen : ℕ) (vs : List Visit) → length (set_firsts kind seen vs) ≤ length vs
 firsts_length kind seen [] = omega arith
 firsts_length kind seen (v ∷ rest) =
-    elim (is_same_kind kind v.node.kind && nat_eq v.node.set (seen + 1)) as (λ b. length (cond b (v ∷ set_firsts kind (seen + 1) rest) (set_firsts kind seen rest)) ≤ suc (length rest)) [
+    elim (is_same_kind kind v.node.kind && nat_eq v.node.set (seen + 1)) as
+    (λ b. length (cond b (v ∷ set_firsts kind (seen + 1) rest) (set_firsts kind seen rest)) ≤ suc (length rest)) [
       | true ↦ omega (arith, firsts_length kind (seen + 1) rest)
       | false ↦ omega (arith, firsts_length kind seen rest)
     ]
@@ -131,7 +136,8 @@ sequences_are_few tree game kind inner =
     let nodes : map visited_node (visits tree) ≡ prefix tree = map-visits_from (λ _. []) 1 tree in
     let many : length (visits tree) ≡ length (prefix tree) = sym (length-map (visits tree) visited_node) ∙ ap length nodes in
     let one : tree_count tree ≡ 1 = game.tree.one in
-    let below : sum (map size_of firsts) ≤ sum (map children_of (prefix tree)) = subst (λ ns. sum (map size_of firsts) ≤ sum (map children_of ns)) nodes (firsts_sum kind 0 (visits tree)) in
+    let below : sum (map size_of firsts) ≤ sum (map children_of (prefix tree)) = subst (λ ns. sum (map size_of firsts) ≤ sum (map children_of ns)) nodes
+    (firsts_sum kind 0 (visits tree)) in
     record {
       actions = All-map (λ size. (1 ≤ size) × (size ≤ 1024)) size_of firsts (firsts_have tree kind game inner);
       sets = (sizes_known tree kind game inner).count ∙ ap (set_count kind) nodes;

@@ -1,5 +1,6 @@
 -- The first nodes of the sets are those that a search for a set's first node finds.
-use Rattle.std.proofs.Common.{◌≡◌, ◌≢◌, ℕ, ◌+◌, ◌<◌, ◌≤◌, Bool, true, false, cond, ◌&&◌, List, [], ◌∷◌, ◌++◌, length, get_or, map, refl, ap, sym, subst, ◌∙◌, arith, length-append, Some}
+use Rattle.std.proofs.Common.{◌≡◌, ◌≢◌, ℕ, ◌+◌, ◌<◌, ◌≤◌, Bool, true, false, cond, ◌&&◌, List, [], ◌∷◌, ◌++◌, length, get_or, map, refl, ap, sym, subst, ◌∙◌}
+use Rattle.std.proofs.Common.{arith, length-append, Some}
 use Rattle.std.specs.Prelude.{nat_eq, Contains}
 use Rattle.std.proofs.lemmas.Bool.{and_parts, eqb-true, eqb-false, ne_eqb}
 use Rattle.std.proofs.lemmas.List.{length-map}
@@ -81,7 +82,8 @@ found_at kind (v ∷ rest) before done seen k d inner many keep fits knows =
           let parts = and_parts (is_same_kind kind v.node.kind) (nat_eq v.node.set (seen + 1)) first in
           let is : v.node.kind ≡ kind = is_same_kind-true kind v.node.kind parts.0 in
           let number : v.node.set ≡ seen + 1 = eqb-true v.node.set (seen + 1) parts.1 in
-          nat_cases (λ i. i < length (v ∷ set_firsts kind (seen + 1) rest) → FoundAt kind seen k (v ∷ rest) i (get_or (v ∷ set_firsts kind (seen + 1) rest) i d))
+          nat_cases (λ i. i < length (v ∷ set_firsts kind (seen + 1) rest)
+          → FoundAt kind seen k (v ∷ rest) i (get_or (v ∷ set_firsts kind (seen + 1) rest) i d))
           (λ h. record {
             kinds = is;
             sets = omega arith;
@@ -90,7 +92,8 @@ found_at kind (v ∷ rest) before done seen k d inner many keep fits knows =
           (λ i h.
           let long : seen + 1 ≡ length (done ++ v.node.children ∷ []) = omega (arith, length-append done (v.node.children ∷ [])) in
           let w : Visit = get_or (set_firsts kind (seen + 1) rest) i d in
-          let found = found_at kind rest more (done ++ v.node.children ∷ []) (seen + 1) (k + 1) d inner long kept fits.1 (knows_new kind before done v.node is (omega arith) knows) i (omega arith) in
+          let found = found_at kind rest more (done ++ v.node.children ∷ []) (seen + 1) (k + 1) d inner long kept fits.1
+          (knows_new kind before done v.node is (omega arith) knows) i (omega arith) in
           let sets : w.node.set ≡ seen + 1 + i + 1 = found.sets in
           record {
             kinds = found.kinds;
@@ -98,11 +101,20 @@ found_at kind (v ∷ rest) before done seen k d inner many keep fits knows =
             first = (found.first.0, skip k v w rest found.first.0 (other_number v.node w.node (λ e. absurd (omega arith))) found.first.1);
           })
       | false ↦ λ other i h.
-          let test : is_same_kind kind v.node.kind && nat_eq v.node.set (length done + 1) ≡ false = ap (λ n. is_same_kind kind v.node.kind && nat_eq v.node.set (n + 1)) (sym many) ∙ other in
+          let test : is_same_kind kind v.node.kind && nat_eq v.node.set (length done + 1)
+          ≡ false = ap (λ n. is_same_kind kind v.node.kind && nat_eq v.node.set (n + 1)) (sym many) ∙ other in
           let w : Visit = get_or (set_firsts kind seen rest) i d in
-          let found = found_at kind rest more done seen (k + 1) d inner many kept fits.1 (knows_later kind before done v.node inner keep fits.0 test knows) i h in
+          let found = found_at kind rest more done seen (k + 1) d inner many kept fits.1 (knows_later kind before done v.node inner keep fits.0 test knows) i
+          h in
           let sets : w.node.set ≡ length done + i + 1 = found.sets ∙ ap (λ n. n + i + 1) many in
-          record { kinds = found.kinds; sets = found.sets; first = (found.first.0, skip k v w rest found.first.0 (not_later kind before done v.node w.node i inner fits.0 knows test found.kinds sets) found.first.1) }
+          record {
+            kinds = found.kinds;
+            sets = found.sets;
+            first = (
+              found.first.0,
+              skip k v w rest found.first.0 (not_later kind before done v.node w.node i inner fits.0 knows test found.kinds sets) found.first.1,
+            );
+          }
     ] refl
 
 -- in the list of first nodes each set of a kind has its first node at the place of its number

@@ -1,5 +1,6 @@
 -- The nodes before a node tell the number of its sequence, and comparing numbers finds the first break of recall.
-use Rattle.std.proofs.Common.{◌≡◌, ℕ, suc, ◌+◌, ◌-◌, ◌<◌, ◌≤◌, true, false, cond, not, ◌&&◌, List, [], ◌∷◌, ◌++◌, length, get_or, take, drop, map, refl, ap, sym, subst, ◌∙◌, arith, inl, inr, ◌⊎◌, Some, None}
+use Rattle.std.proofs.Common.{◌≡◌, ℕ, suc, ◌+◌, ◌-◌, ◌<◌, ◌≤◌, true, false, cond, not, ◌&&◌, List, [], ◌∷◌, ◌++◌, length, get_or, take, drop, map, refl, ap}
+use Rattle.std.proofs.Common.{sym, subst, ◌∙◌, arith, inl, inr, ◌⊎◌, Some, None}
 use Rattle.std.specs.Prelude.{Option, nat_eq, sum, Contains}
 use Rattle.std.proofs.lemmas.Bool.{cases_lt, eq-eqb, ne_eqb}
 use Rattle.std.proofs.lemmas.List.{get_or_default, map-append, take-append-drop, take-append-le}
@@ -9,8 +10,10 @@ use Rattle.def_tree.specs.declared.Node.{Node}
 use Rattle.def_tree.specs.Tree.{Forest, prefix, is_leaf_kind}
 use Rattle.def_tree.specs.Rules.{is_same_kind, IsGameTree}
 use Rattle.def_game_paths.specs.Paths.{Visit, visits, Choice, own_choices}
-use Rattle.def_game_paths.specs.Recall.{AgreeOnPast, Numbered, RecallBreak, break_against, break_or, differ_in_past, first_break, first_of_set, is_personal, is_same_choices, is_same_set, past}
-use Rattle.def_game_paths.specs.Sequences.{NumbersAreKnownOnTheWay, NumbersFindTheBreak, differ_in_number, sequence_at, sequence_number, set_firsts, set_sizes, sizes_so_far}
+use Rattle.def_game_paths.specs.Recall.{AgreeOnPast, Numbered, RecallBreak, break_against, break_or, differ_in_past, first_break, first_of_set, is_personal}
+use Rattle.def_game_paths.specs.Recall.{is_same_choices, is_same_set, past}
+use Rattle.def_game_paths.specs.Sequences.{NumbersAreKnownOnTheWay, NumbersFindTheBreak, differ_in_number, sequence_at, sequence_number, set_firsts, set_sizes}
+use Rattle.def_game_paths.specs.Sequences.{sizes_so_far}
 use Rattle.def_game_paths.proofs.Visits.{map-visits_from}
 use Rattle.def_game_paths.proofs.Order.{visited_node, KeepFrom, KeepFrom-append, KnowsSizes}
 use Rattle.def_game_paths.proofs.Breaks.{HasFirst, first_found, is_same_choices_refl, is_same_set_by, no_break_some, same_choices, same_set}
@@ -24,7 +27,8 @@ set_firsts-append kind seen [] ys = let same : seen ≡ seen + 0 = omega arith i
 set_firsts-append kind seen (x ∷ xs) ys =
     elim (is_same_kind kind x.node.kind && nat_eq x.node.set (seen + 1)) as (λ b.
     cond b (x ∷ set_firsts kind (seen + 1) (xs ++ ys)) (set_firsts kind seen (xs ++ ys))
-    ≡ cond b (x ∷ set_firsts kind (seen + 1) xs) (set_firsts kind seen xs) ++ set_firsts kind (seen + length (cond b (x ∷ set_firsts kind (seen + 1) xs) (set_firsts kind seen xs))) ys) [
+    ≡ cond b (x ∷ set_firsts kind (seen + 1) xs) (set_firsts kind seen xs)
+    ++ set_firsts kind (seen + length (cond b (x ∷ set_firsts kind (seen + 1) xs) (set_firsts kind seen xs))) ys) [
       | true ↦
           let far : seen + 1 + length (set_firsts kind (seen + 1) xs) ≡ seen + suc (length (set_firsts kind (seen + 1) xs)) = omega arith in
           ap (λ vs. x ∷ vs) (set_firsts-append kind (seen + 1) xs ys ∙ ap (λ n. set_firsts kind (seen + 1) xs ++ set_firsts kind n ys) far)
@@ -38,7 +42,8 @@ sizes_front kind k vs =
     let xs : List Visit = take k vs in
     let rest : List Visit = set_firsts kind (0 + length (set_firsts kind 0 xs)) (drop k vs) in (
       map (λ v. v.node.children) rest,
-      ap (sizes_so_far kind) (sym (take-append-drop k vs)) ∙ ap (map (λ v. v.node.children)) (set_firsts-append kind 0 xs (drop k vs)) ∙ map-append (λ v. v.node.children) (set_firsts kind 0 xs) rest,
+      ap (sizes_so_far kind) (sym (take-append-drop k vs)) ∙ ap (map (λ v. v.node.children)) (set_firsts-append kind 0 xs (drop k vs))
+          ∙ map-append (λ v. v.node.children) (set_firsts kind 0 xs) rest,
     )
 
 KeepFrom-front : (before xs ys : List Node) → KeepFrom before (xs ++ ys) → KeepFrom before xs
@@ -50,10 +55,13 @@ pub known_so_far : (tree : Forest) (kind : Kind) → IsGameTree tree → is_leaf
     → KnowsSizes kind (map visited_node (take k (visits tree))) (sizes_so_far kind (take k (visits tree)))
 known_so_far tree kind game inner k =
     let all : List Visit = visits tree in
-    let nodes : map visited_node (take k all) ++ map visited_node (drop k all) ≡ prefix tree = sym (map-append visited_node (take k all) (drop k all)) ∙ ap (map visited_node) (take-append-drop k all) ∙ map-visits_from (λ _. []) 1 tree in
+    let nodes : map visited_node (take k all) ++ map visited_node (drop k all) ≡ prefix tree = sym (map-append visited_node (take k all) (drop k all))
+    ∙ ap (map visited_node) (take-append-drop k all) ∙ map-visits_from (λ _. []) 1 tree in
     let keep : KeepFrom [] (map visited_node (take k all)) =
-    KeepFrom-front [] (map visited_node (take k all)) (map visited_node (drop k all)) (subst (KeepFrom []) (sym nodes) (KeepFrom-append [] (prefix tree) game.rules)) in
-    knows_all kind (take k all) [] [] 0 inner refl (λ i e there. absurd (omega arith)) keep (record { count = refl; each = λ x there is. absurd (nothing_in x there) })
+    KeepFrom-front [] (map visited_node (take k all)) (map visited_node (drop k all))
+    (subst (KeepFrom []) (sym nodes) (KeepFrom-append [] (prefix tree) game.rules)) in
+    knows_all kind (take k all) [] [] 0 inner refl (λ i e there. absurd (omega arith)) keep
+    (record { count = refl; each = λ x there is. absurd (nothing_in x there) })
   where
     nothing_in : (x : Node) → Contains [] x → ⊥
     nothing_in x there = let h : there.0 < 0 = there.1 in absurd (omega arith)
@@ -109,7 +117,8 @@ module _ (tree : Forest) (game : IsGameTree tree) where
   -- where recall holds for the nodes before, the two tests of a node against an earlier one agree
   tests_agree : (i p : ℕ) (d : Visit) → p ≤ i → i < length (visits tree) → RecallsUpTo (visits tree) i
       → (get_or (visits tree) p d).node.kind ≡ (get_or (visits tree) i d).node.kind →
-      is_personal (get_or (visits tree) i d).node.kind ≡ true → differ_in_number tree (get_or (visits tree) p d) (get_or (visits tree) i d) ≡ differ_in_past (get_or (visits tree) p d) (get_or (visits tree) i d)
+      is_personal (get_or (visits tree) i d).node.kind ≡ true → differ_in_number tree (get_or (visits tree) p d) (get_or (visits tree) i d)
+      ≡ differ_in_past (get_or (visits tree) p d) (get_or (visits tree) i d)
   tests_agree i p d below there recall kinds personal =
       let w : Visit = get_or (visits tree) p d in
       let v : Visit = get_or (visits tree) i d in
@@ -130,17 +139,21 @@ module _ (tree : Forest) (game : IsGameTree tree) where
       let early : found.0 ≤ i = not_behind all v.node d first found i (is_same_set_by v.node v.node refl refl) in
       let alike = same_set first.visit.node v.node found.1.same in
       let kinds : (get_or all found.0 d).node.kind ≡ v.node.kind = ap (λ x. x.node.kind) (sym found.1.visit) ∙ alike.0 in
-      elim (is_personal v.node.kind) as (λ b. is_personal v.node.kind ≡ b → cond (b && differ_in_number tree first.visit v) broken None ≡ cond (b && differ_in_past first.visit v) broken None) [
-        | true ↦ λ personal. ap (λ b. cond b broken None) (subst (λ w. differ_in_number tree w v ≡ differ_in_past w v) (sym found.1.visit) (tests_agree i found.0 d early there recall kinds personal))
+      elim (is_personal v.node.kind) as (λ b. is_personal v.node.kind ≡ b → cond (b && differ_in_number tree first.visit v) broken None
+      ≡ cond (b && differ_in_past first.visit v) broken None) [
+        | true ↦ λ personal. ap (λ b. cond b broken None) (subst (λ w. differ_in_number tree w v ≡ differ_in_past w v) (sym found.1.visit)
+            (tests_agree i found.0 d early there recall kinds personal))
         | false ↦ λ not_personal. refl
       ] refl
 
   -- where a node doesn't break recall, it holds up to the node
   one_more : (i : ℕ) (d : Visit) (o : Option Numbered) → i < length (visits tree) → RecallsUpTo (visits tree) i
       → HasFirst 1 (get_or (visits tree) i d).node (visits tree) d o →
-      break_against differ_in_past (1 + i) (get_or (visits tree) i d) o ≡ None → (p : ℕ) → p < i → AgreeOnPast (get_or (visits tree) p d) (get_or (visits tree) i d)
+      break_against differ_in_past (1 + i) (get_or (visits tree) i d) o ≡ None → (p : ℕ) → p < i
+      → AgreeOnPast (get_or (visits tree) p d) (get_or (visits tree) i d)
   one_more i d None there recall found none p below personal kinds sets =
-      let yes : is_same_set (get_or (visits tree) p d).node (get_or (visits tree) i d).node ≡ true = is_same_set_by (get_or (visits tree) p d).node (get_or (visits tree) i d).node kinds sets in
+      let yes : is_same_set (get_or (visits tree) p d).node (get_or (visits tree) i d).node
+      ≡ true = is_same_set_by (get_or (visits tree) p d).node (get_or (visits tree) i d).node kinds sets in
       absurd (apart (sym yes ∙ found p (omega arith)))
     where
       apart : true ≡ false → ⊥
@@ -190,15 +203,19 @@ module _ (tree : Forest) (game : IsGameTree tree) where
       × (break_against differ_in_past (1 + i) w (first_of_set 1 w.node all) ≡ None → RecallsUpTo all (suc i)) in
       let found : HasFirst 1 (get_or all i d).node all d (first_of_set 1 (get_or all i d).node all) = first_found 1 (get_or all i d).node all d in
       let agrees : Agrees v =
-      subst Agrees is
-      (against_agree i d (first_of_set 1 (get_or all i d).node all) (omega arith) recall found, recalls_more i d (first_of_set 1 (get_or all i d).node all) (omega arith) recall found) in
+      subst Agrees is (
+        against_agree i d (first_of_set 1 (get_or all i d).node all) (omega arith) recall found,
+        recalls_more i d (first_of_set 1 (get_or all i d).node all) (omega arith) recall found,
+      ) in
       let next : 1 + i + 1 ≡ 1 + suc i = omega arith in
       ap (λ o. break_or o (first_break (differ_in_number tree) all (1 + i + 1) rest)) agrees.0
-      ∙ elim (break_against differ_in_past (1 + i) v (first_of_set 1 v.node all)) as (λ o. break_against differ_in_past (1 + i) v (first_of_set 1 v.node all) ≡ o →
+      ∙ elim (break_against differ_in_past (1 + i) v (first_of_set 1 v.node all)) as
+      (λ o. break_against differ_in_past (1 + i) v (first_of_set 1 v.node all) ≡ o →
       break_or o (first_break (differ_in_number tree) all (1 + i + 1) rest) ≡ break_or o (first_break differ_in_past all (1 + i + 1) rest)) [
         | None ↦ λ none.
             ap (λ n. first_break (differ_in_number tree) all n rest) next
-            ∙ scans_agree (suc i) rest d (omega arith) (λ j below. let far : i + suc j ≡ suc i + j = omega arith in at (suc j) (omega arith) ∙ ap (λ n. get_or all n d) far) (agrees.1 none)
+            ∙ scans_agree (suc i) rest d (omega arith) (λ j below. let far : i + suc j ≡ suc i + j = omega arith in at (suc j) (omega arith)
+            ∙ ap (λ n. get_or all n d) far) (agrees.1 none)
             ∙ sym (ap (λ n. first_break differ_in_past all n rest) next)
         | Some broken ↦ λ is_broken. refl
       ] refl
@@ -207,4 +224,5 @@ module _ (tree : Forest) (game : IsGameTree tree) where
 pub numbers_find_the_break : NumbersFindTheBreak
 numbers_find_the_break tree game =
     let d : Visit = record { path = []; node = record { kind = Leaf; set = 0; outcome = 0; children = 0 } } in
-    scans_agree tree game 0 (visits tree) d (omega arith) (λ j below. let same : j ≡ 0 + j = omega arith in ap (λ n. get_or (visits tree) n d) same) (λ p q e less below inside. absurd (omega arith))
+    scans_agree tree game 0 (visits tree) d (omega arith) (λ j below. let same : j ≡ 0 + j = omega arith in ap (λ n. get_or (visits tree) n d) same)
+    (λ p q e less below inside. absurd (omega arith))

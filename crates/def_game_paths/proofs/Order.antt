@@ -1,6 +1,7 @@
 -- The sequence before a set comes before those that end at it:
 -- what its player chose before was chosen at sets with smaller numbers.
-use Rattle.std.proofs.Common.{◌≡◌, ℕ, zero, suc, ◌+◌, ◌-◌, ◌<◌, ◌≤◌, max, true, false, cond, ◌&&◌, List, [], ◌∷◌, ◌++◌, length, get_or, take, map, refl, ap, sym, subst, ◌∙◌, arith, inl, inr, append_assoc, append-nil, length-append}
+use Rattle.std.proofs.Common.{◌≡◌, ℕ, zero, suc, ◌+◌, ◌-◌, ◌<◌, ◌≤◌, max, true, false, cond, ◌&&◌, List, [], ◌∷◌, ◌++◌, length, get_or, take, map, refl, ap}
+use Rattle.std.proofs.Common.{sym, subst, ◌∙◌, arith, inl, inr, append_assoc, append-nil, length-append}
 use Rattle.std.specs.Prelude.{nat_eq, sum, Contains}
 use Rattle.std.proofs.lemmas.Bool.{and_parts, cases_lt, eqb-true, eq-eqb}
 use Rattle.std.proofs.lemmas.List.{take-append-le, get_or-map, length-map}
@@ -56,9 +57,13 @@ visits_in above action (grown node below beside) before has paths =
     let down : ℕ → List Move = λ next. record { node = node; action = next } ∷ above action in (
       here,
       PathsIn-append seen (visits_from down 1 below) (visits_from above (action + 1) beside)
-          (visits_in down 1 below seen has.1 (λ a low high. ((Contains-push before node, (low, omega arith)), PathIn-append before (node ∷ []) (above action) here)))
+          (visits_in down 1 below seen has.1 (λ a low high. (
+            (Contains-push before node, (low, omega arith)),
+            PathIn-append before (node ∷ []) (above action) here,
+          )))
           (visits_in above (action + 1) beside (seen ++ map visited_node (visits_from down 1 below)) has.2
-          (λ a low high. PathIn-append seen (map visited_node (visits_from down 1 below)) (above a) (PathIn-append before (node ∷ []) (above a) (paths a (omega arith) (omega arith))))),
+          (λ a low high. PathIn-append seen (map visited_node (visits_from down 1 below)) (above a)
+          (PathIn-append before (node ∷ []) (above a) (paths a (omega arith) (omega arith))))),
     )
 
 -- each of the later nodes keeps the rules after those before it
@@ -106,11 +111,13 @@ knows_seen : (kind : Kind) (before : List Node) (done : List ℕ) (node : Node) 
     → KnowsSizes kind (before ++ node ∷ []) done
 knows_seen kind before done node inner is keep joins low knows =
     let count : length done ≡ set_count kind before = knows.count in
-    let more : set_count kind (before ++ node ∷ []) ≡ max node.set (set_count kind before) = set_count-push_same kind before node (is_same_kind_self kind node.kind is) in
+    let more : set_count kind (before ++ node ∷ []) ≡ max node.set (set_count kind before) = set_count-push_same kind before node
+    (is_same_kind_self kind node.kind is) in
     let counts : 1 ≤ node.set = joins.counts in
     let first = each_set_appears before keep kind node.set counts (omega arith) in
     let held = knows.each first.0 first.1.0 first.1.1.0 in
-    let agrees : first.0.children ≡ node.children = All-contains (λ earlier. AgreeOnSize earlier node) before first.0 joins.agrees first.1.0 (first.1.1.0 ∙ sym is) first.1.1.1 in
+    let agrees : first.0.children ≡ node.children = All-contains (λ earlier. AgreeOnSize earlier node) before first.0 joins.agrees first.1.0
+    (first.1.1.0 ∙ sym is) first.1.1.1 in
     let size : get_or done (node.set - 1) 0 ≡ node.children = ap (λ n. get_or done (n - 1) 0) (sym first.1.1.1) ∙ held.2 ∙ agrees in
     record {
       count = omega arith;
@@ -126,10 +133,12 @@ pub knows_new : (kind : Kind) (before : List Node) (done : List ℕ) (node : Nod
     → KnowsSizes kind (before ++ node ∷ []) (done ++ node.children ∷ [])
 knows_new kind before done node is next knows =
     let count : length done ≡ set_count kind before = knows.count in
-    let more : set_count kind (before ++ node ∷ []) ≡ max node.set (set_count kind before) = set_count-push_same kind before node (is_same_kind_self kind node.kind is) in
+    let more : set_count kind (before ++ node ∷ []) ≡ max node.set (set_count kind before) = set_count-push_same kind before node
+    (is_same_kind_self kind node.kind is) in
     let long : length (done ++ node.children ∷ []) ≡ length done + 1 = length-append done (node.children ∷ []) in
     let index : node.set - 1 ≡ length done = omega arith in
-    let size : get_or (done ++ node.children ∷ []) (node.set - 1) 0 ≡ node.children = ap (λ n. get_or (done ++ node.children ∷ []) n 0) index ∙ get_or-append_seam done node.children [] 0 in
+    let size : get_or (done ++ node.children ∷ []) (node.set - 1) 0 ≡ node.children = ap (λ n. get_or (done ++ node.children ∷ []) n 0) index
+    ∙ get_or-append_seam done node.children [] 0 in
     record {
       count = omega arith;
       each = λ x there kinds. elim (Contains-push_cases before node x there) [
@@ -138,7 +147,8 @@ knows_new kind before done node is next knows =
             let low : 1 ≤ x.set = held.0 in
             let high : x.set ≤ length done = held.1 in
             (low, omega arith, get_or-append done (node.children ∷ []) 0 (x.set - 1) (omega arith) ∙ held.2)
-        | inr new ↦ subst (λ n. (1 ≤ n.set) × (n.set ≤ length (done ++ node.children ∷ [])) × (get_or (done ++ node.children ∷ []) (n.set - 1) 0 ≡ n.children)) new (omega arith, omega arith, size)
+        | inr new ↦ subst (λ n. (1 ≤ n.set) × (n.set ≤ length (done ++ node.children ∷ [])) × (get_or (done ++ node.children ∷ []) (n.set - 1) 0 ≡ n.children))
+            new (omega arith, omega arith, size)
       ];
     }
 
@@ -149,7 +159,8 @@ number_below : (kind : Kind) (before : List Node) (done later : List ℕ) (path 
 number_below kind before done later [] knows paths = omega arith
 number_below kind before done later (step ∷ rest) knows paths =
     elim (is_same_kind kind step.node.kind) as (λ b. is_same_kind kind step.node.kind ≡ b →
-    sequence_number (done ++ later) (cond b (record { set = step.node.set; action = step.action } ∷ own_choices kind rest) (own_choices kind rest)) < 1 + sum (take (length done) (done ++ later))) [
+    sequence_number (done ++ later) (cond b (record { set = step.node.set; action = step.action } ∷ own_choices kind rest) (own_choices kind rest)) < 1
+    + sum (take (length done) (done ++ later))) [
       | true ↦ λ same.
           let held = knows.each step.node paths.0.0 (is_same_kind-true kind step.node.kind same) in
           let low : 1 ≤ step.node.set = held.0 in
@@ -159,7 +170,8 @@ number_below kind before done later (step ∷ rest) knows paths =
           let size : get_or done (step.node.set - 1) 0 ≡ step.node.children = held.2 in
           let front : take (step.node.set - 1) (done ++ later) ≡ take (step.node.set - 1) done = take-append-le (step.node.set - 1) done later (omega arith) in
           let whole : take (length done) (done ++ later) ≡ done = take-append_seam done later in
-          let part : sum (take (step.node.set - 1) done) + get_or done (step.node.set - 1) 0 ≤ sum done = sum_by_more_le (λ x. x) done (step.node.set - 1) 0 (omega arith) in
+          let part : sum (take (step.node.set - 1) done) + get_or done (step.node.set - 1) 0
+          ≤ sum done = sum_by_more_le (λ x. x) done (step.node.set - 1) 0 (omega arith) in
           omega (arith, ap sum front, ap sum whole)
       | false ↦ λ other. number_below kind before done later rest knows paths.1
     ] refl
@@ -174,7 +186,8 @@ pub knows_later : (kind : Kind) (before : List Node) (done : List ℕ) (node : N
     → KeepRules before → Fits before node → is_same_kind kind node.kind && nat_eq node.set (length done + 1) ≡ false →
     KnowsSizes kind before done → KnowsSizes kind (before ++ node ∷ []) done
 knows_later kind before done node inner keep fits other knows =
-    elim (is_same_kind kind node.kind) as (λ b. is_same_kind kind node.kind ≡ b → b && nat_eq node.set (length done + 1) ≡ false → KnowsSizes kind (before ++ node ∷ []) done) [
+    elim (is_same_kind kind node.kind) as (λ b. is_same_kind kind node.kind ≡ b → b && nat_eq node.set (length done + 1) ≡ false
+    → KnowsSizes kind (before ++ node ∷ []) done) [
       | true ↦ λ same not_next.
           let is : node.kind ≡ kind = is_same_kind-true kind node.kind same in
           let joins = joins_of kind before node inner is (subst (λ k. FitsAs k before node) is fits) in
@@ -203,17 +216,20 @@ in_order kind (v ∷ rest) before done sizes seen d inner many keep fits paths k
     elim (is_same_kind kind v.node.kind && nat_eq v.node.set (seen + 1)) as (λ b. is_same_kind kind v.node.kind && nat_eq v.node.set (seen + 1) ≡ b →
     sizes ≡ done ++ map (λ (w : Visit). w.node.children) (cond b (v ∷ set_firsts kind (seen + 1) rest) (set_firsts kind seen rest)) →
     (i : ℕ) → i < length (cond b (v ∷ set_firsts kind (seen + 1) rest) (set_firsts kind seen rest)) →
-    sequence_number sizes (own_choices kind (get_or (cond b (v ∷ set_firsts kind (seen + 1) rest) (set_firsts kind seen rest)) i d).path) < first_sequence sizes (seen + i + 1)) [
+    sequence_number sizes (own_choices kind (get_or (cond b (v ∷ set_firsts kind (seen + 1) rest) (set_firsts kind seen rest)) i d).path)
+    < first_sequence sizes (seen + i + 1)) [
       | true ↦ λ first all.
           let parts = and_parts (is_same_kind kind v.node.kind) (nat_eq v.node.set (seen + 1)) first in
           let is : v.node.kind ≡ kind = is_same_kind-true kind v.node.kind parts.0 in
           let number : v.node.set ≡ seen + 1 = eqb-true v.node.set (seen + 1) parts.1 in
           let later : List ℕ = map (λ (w : Visit). w.node.children) (v ∷ set_firsts kind (seen + 1) rest) in
-          nat_cases (λ i. i < length (v ∷ set_firsts kind (seen + 1) rest) → sequence_number sizes (own_choices kind (get_or (v ∷ set_firsts kind (seen + 1) rest) i d).path) < first_sequence sizes (seen + i + 1))
+          nat_cases (λ i. i < length (v ∷ set_firsts kind (seen + 1) rest)
+          → sequence_number sizes (own_choices kind (get_or (v ∷ set_firsts kind (seen + 1) rest) i d).path) < first_sequence sizes (seen + i + 1))
           (λ h.
           let index : length done ≡ seen + 0 + 1 - 1 = omega arith in
           subst (λ n. sequence_number sizes (own_choices kind v.path) < 1 + sum (take n sizes)) index
-          (subst (λ xs. sequence_number xs (own_choices kind v.path) < 1 + sum (take (length done) xs)) (sym all) (number_below kind before done later v.path knows paths.0)))
+          (subst (λ xs. sequence_number xs (own_choices kind v.path) < 1 + sum (take (length done) xs)) (sym all)
+          (number_below kind before done later v.path knows paths.0)))
           (λ i h.
           let index : seen + 1 + i + 1 ≡ seen + suc i + 1 = omega arith in
           let long : seen + 1 ≡ length (done ++ v.node.children ∷ []) = omega (arith, length-append done (v.node.children ∷ [])) in
@@ -223,7 +239,8 @@ in_order kind (v ∷ rest) before done sizes seen d inner many keep fits paths k
           (all ∙ sym (append_assoc done (v.node.children ∷ []) (map (λ (w : Visit). w.node.children) (set_firsts kind (seen + 1) rest))))
           i (omega arith)))
       | false ↦ λ other all i h.
-          let test : is_same_kind kind v.node.kind && nat_eq v.node.set (length done + 1) ≡ false = ap (λ n. is_same_kind kind v.node.kind && nat_eq v.node.set (n + 1)) (sym many) ∙ other in
+          let test : is_same_kind kind v.node.kind && nat_eq v.node.set (length done + 1)
+          ≡ false = ap (λ n. is_same_kind kind v.node.kind && nat_eq v.node.set (n + 1)) (sym many) ∙ other in
           in_order kind rest more done sizes seen d inner many kept fits.1 paths.1 (knows_later kind before done v.node inner keep fits.0 test knows) all i h
     ] refl
 

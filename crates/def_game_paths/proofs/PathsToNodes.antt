@@ -13,9 +13,11 @@ lead_from : (tree : Forest) (above : ℕ → List Move) (action : ℕ) (trees : 
 lead_from tree above action bare lead = All-nil (LeadsToNode tree)
 lead_from tree above action (grown node below beside) lead =
     let none : action - action ≡ 0 = omega arith in
-    let here : LeadsTo tree (above action) (grown node below beside) = subst (λ n. LeadsTo tree (above action) (drop_trees n (grown node below beside))) none (lead action (omega arith) (omega arith)) in
+    let here : LeadsTo tree (above action) (grown node below beside) = subst (λ n. LeadsTo tree (above action) (drop_trees n (grown node below beside))) none
+    (lead action (omega arith) (omega arith)) in
     let down : ℕ → List Move = λ next. record { node = node; action = next } ∷ above action in
-    All-cons (LeadsToNode tree) (record { path = above action; node = node }) (visits_from down 1 below ++ visits_from above (action + 1) beside) (below, beside, here)
+    All-cons (LeadsToNode tree) (record { path = above action; node = node }) (visits_from down 1 below ++ visits_from above (action + 1) beside)
+    (below, beside, here)
     (All-append (LeadsToNode tree) (visits_from down 1 below) (visits_from above (action + 1) beside)
     (lead_from tree down 1 below (λ a low high. (below, beside, here, low, omega arith, refl)))
     (lead_from tree above (action + 1) beside (λ a low high.
@@ -31,7 +33,8 @@ paths_deep : (above : ℕ → List Move) (action depth : ℕ) (trees : Forest) �
 paths_deep above action depth bare deep = refl
 paths_deep above action depth (grown node below beside) deep =
     let down : ℕ → List Move = λ next. record { node = node; action = next } ∷ above action in
-    let rest : map (λ (v : Visit). length v.path) (visits_from down 1 below ++ visits_from above (action + 1) beside) ≡ depths_from (depth + 1) below ++ depths_from depth beside =
+    let rest : map (λ (v : Visit). length v.path) (visits_from down 1 below ++ visits_from above (action + 1) beside) ≡ depths_from (depth + 1) below
+    ++ depths_from depth beside =
     map-append (λ (v : Visit). length v.path) (visits_from down 1 below) (visits_from above (action + 1) beside)
     ∙ (λ i. paths_deep down 1 (depth + 1) below (λ a. omega (arith, deep action)) i ++ paths_deep above (action + 1) depth beside deep i) in
     λ i. deep action i ∷ rest i

@@ -12,7 +12,8 @@ pub map-visits_from : (above : ℕ → List Move) (action : ℕ) (trees : Forest
 map-visits_from above action bare = refl
 map-visits_from above action (grown node below beside) =
     ap (λ rest. node ∷ rest)
-    (map-append (λ (visit : Visit). visit.node) (visits_from (λ next. record { node = node; action = next } ∷ above action) 1 below) (visits_from above (action + 1) beside)
+    (map-append (λ (visit : Visit). visit.node) (visits_from (λ next. record { node = node; action = next } ∷ above action) 1 below)
+    (visits_from above (action + 1) beside)
     ∙ (λ i. map-visits_from (λ next. record { node = node; action = next } ∷ above action) 1 below i ++ map-visits_from above (action + 1) beside i))
 
 -- a player's own choices are all the moves made at the player's nodes, each by its set and its action

@@ -2,7 +2,8 @@
 --     Move, Visit, visits t         a move on a path; a node with its path;
 --                                   the nodes in prefix order, each with its path
 --     Choice, own_choices kind p    an action at a set; a player's own choices on a path
-use Rattle.std.specs.Prelude.{◌≡◌, ℕ, ◌+◌, ◌-◌, ◌<◌, ◌≤◌, Bool, if◌then◌else◌, List, [], ◌∷◌, ◌++◌, length, map, filter, take, slice_index_or, All, Contains}
+use Rattle.std.specs.Prelude.{◌≡◌, ℕ, ◌+◌, ◌-◌, ◌<◌, ◌≤◌, Bool, if◌then◌else◌, List, [], ◌∷◌, ◌++◌, length, map, filter}
+use Rattle.std.specs.Prelude.{take, slice_index_or, All, Contains}
 use Rattle.def_tree.specs.declared.Kind.{Kind}
 use Rattle.def_tree.specs.declared.Node.{Node}
 use Rattle.def_tree.specs.Tree.{Forest, bare, grown, prefix, tree_count, drop_trees, IsTree, is_leaf_node}
@@ -24,7 +25,8 @@ abbrev pub visits_from : (ℕ → List Move) → ℕ → Forest → List Visit
 visits_from above action bare = []
 visits_from above action (grown node below beside) =
     record { path = above action; node = node }
-    ∷ (visits_from (λ next. record { node = node; action = next } ∷ above action) 1 below ++ visits_from above (action + 1) beside)
+    ∷ (visits_from (λ next. record { node = node; action = next } ∷ above action) 1 below
+    ++ visits_from above (action + 1) beside)
 
 abbrev pub visits : Forest → List Visit
 visits tree = visits_from (λ _. []) 1 tree
@@ -45,12 +47,14 @@ pub record Choice : Type 0 where
 abbrev pub own_choices : Kind → List Move → List Choice
 own_choices kind [] = []
 own_choices kind (move ∷ rest) =
-    if is_same_kind kind move.node.kind then record { set = move.node.set; action = move.action } ∷ own_choices kind rest else own_choices kind rest
+    if is_same_kind kind move.node.kind then record { set = move.node.set; action = move.action }
+    ∷ own_choices kind rest else own_choices kind rest
 
 -- a player's own choices are all the moves made at the player's nodes, each by its set and its action
 abbrev pub OwnChoicesAreMoves : Type 0
 OwnChoicesAreMoves = (kind : Kind) (path : List Move) →
-    own_choices kind path ≡ map (λ move. record { set = move.node.set; action = move.action }) (filter (λ move. is_same_kind kind move.node.kind) path)
+    own_choices kind path ≡ map (λ move. record { set = move.node.set; action = move.action })
+    (filter (λ move. is_same_kind kind move.node.kind) path)
 
 -- the nodes that are visited are those of the tree
 abbrev pub VisitsArePrefix : Type 0
@@ -61,7 +65,8 @@ VisitsArePrefix = (tree : Forest) → map (λ visit. visit.node) (visits tree) �
 abbrev pub LeadsTo : Forest → List Move → Forest → Type 0
 LeadsTo tree [] there = there ≡ tree
 LeadsTo tree (move ∷ rest) there =
-    (below : Forest) × (beside : Forest) × LeadsTo tree rest (grown move.node below beside) × (1 ≤ move.action) × (move.action ≤ tree_count below) × (there ≡ drop_trees (move.action - 1) below)
+    (below : Forest) × (beside : Forest) × LeadsTo tree rest (grown move.node below beside) × (1 ≤ move.action)
+    × (move.action ≤ tree_count below) × (there ≡ drop_trees (move.action - 1) below)
 
 abbrev pub LeadsToNode : Forest → Visit → Type 0
 LeadsToNode tree v = (below : Forest) × (beside : Forest) × LeadsTo tree v.path (grown v.node below beside)
@@ -74,7 +79,8 @@ PathsLeadToNodes = (tree : Forest) → tree_count tree ≡ 1 → All (LeadsToNod
 -- and so does the rest
 abbrev pub GoesThrough : List Visit → List Move → Type 0
 GoesThrough before [] = Unit {0}
-GoesThrough before (move ∷ rest) = (Contains before (record { path = rest; node = move.node }) × ((1 ≤ move.action) × (move.action ≤ move.node.children))) × GoesThrough before rest
+GoesThrough before (move ∷ rest) = (Contains before (record { path = rest; node = move.node })
+    × ((1 ≤ move.action) × (move.action ≤ move.node.children))) × GoesThrough before rest
 
 -- the path of a node is that of its parent with one move more, and the parent is visited before it
 abbrev pub ParentsComeBefore : Type 0

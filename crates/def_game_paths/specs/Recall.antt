@@ -2,7 +2,8 @@
 --     HasPerfectRecall t       the fact, on all pairs of nodes of one set
 --     recall_break t           the first node at which it fails, and the first node of its set
 --     first_break differs      the same by any test of two nodes
-use Rattle.std.specs.Prelude.{◌≡◌, ◌≢◌, ◌↔◌, ℕ, ◌+◌, ◌-◌, ◌<◌, ◌≤◌, Bool, true, false, ◌&&◌, nat_eq, not, if◌then◌else◌, List, [], ◌∷◌, length, slice_index_or, AllPairs, Option, Some, None}
+use Rattle.std.specs.Prelude.{◌≡◌, ◌≢◌, ◌↔◌, ℕ, ◌+◌, ◌-◌, ◌<◌, ◌≤◌, Bool, true, false, ◌&&◌, nat_eq, not, if◌then◌else◌}
+use Rattle.std.specs.Prelude.{List, [], ◌∷◌, length, slice_index_or, AllPairs, Option, Some, None}
 use Rattle.def_tree.specs.declared.Kind.{Kind}
 use Rattle.def_tree.specs.declared.Kind.TheVariants.{Chance, One, Two, Leaf}
 use Rattle.def_tree.specs.declared.Node.{Node}
@@ -45,7 +46,8 @@ pub record Numbered : Type 0 where
 -- the first node that is in the same set as this one, where the nodes count from k on
 abbrev pub first_of_set : ℕ → Node → List Visit → Option Numbered
 first_of_set k node [] = None
-first_of_set k node (v ∷ rest) = if is_same_set v.node node then Some (record { number = k; visit = v }) else first_of_set (k + 1) node rest
+first_of_set k node (v ∷ rest) = if is_same_set v.node node then Some (record { number = k; visit = v })
+    else first_of_set (k + 1) node rest
 
 -- a node at which recall fails, and the first node of its set
 pub record RecallBreak : Type 0 where
@@ -55,7 +57,8 @@ pub record RecallBreak : Type 0 where
 -- the first node of its set differs from a player's node, by this test of the two
 abbrev pub break_against : (Visit → Visit → Bool) → ℕ → Visit → Option Numbered → Option RecallBreak
 break_against differs k v None = None
-break_against differs k v (Some first) = if is_personal v.node.kind && differs first.visit v then Some (record { node = k; earlier = first.number }) else None
+break_against differs k v (Some first) = if is_personal v.node.kind
+    && differs first.visit v then Some (record { node = k; earlier = first.number }) else None
 
 abbrev pub break_or : Option RecallBreak → Option RecallBreak → Option RecallBreak
 break_or None later = later
@@ -63,7 +66,8 @@ break_or (Some broken) later = Some broken
 
 abbrev pub first_break : (Visit → Visit → Bool) → List Visit → ℕ → List Visit → Option RecallBreak
 first_break differs all k [] = None
-first_break differs all k (v ∷ rest) = break_or (break_against differs k v (first_of_set 1 v.node all)) (first_break differs all (k + 1) rest)
+first_break differs all k (v ∷ rest) = break_or (break_against differs k v (first_of_set 1 v.node all))
+    (first_break differs all (k + 1) rest)
 
 -- the players of the two nodes made other choices before them
 abbrev pub differ_in_past : Visit → Visit → Bool

@@ -2,18 +2,22 @@
 -- and the numbers of the player's sequences (von Stengel 1996).
 -- Sequence 0 is the empty one. Then come the sequences that end at set 1, in the order of its actions,
 -- then those of set 2, and so on.
-use Rattle.std.specs.Prelude.{All, AllPairs, Bool, IsSome, List, None, Option, Some, [], false, if◌then◌else◌, length, map, nat_eq, nat_lt, not, slice_index, slice_index_or, suc, sum, take, true, zero, ℕ, ◌&&◌, ◌+◌, ◌-◌, ◌<◌, ◌≤◌, ◌↔◌, ◌∷◌, ◌≡◌}
+use Rattle.std.specs.Prelude.{All, AllPairs, Bool, IsSome, List, None, Option, Some, [], false, if◌then◌else◌, length}
+use Rattle.std.specs.Prelude.{map, nat_eq, nat_lt, not, slice_index, slice_index_or, suc, sum, take, true, zero, ℕ}
+use Rattle.std.specs.Prelude.{◌&&◌, ◌+◌, ◌-◌, ◌<◌, ◌≤◌, ◌↔◌, ◌∷◌, ◌≡◌}
 use Rattle.def_tree.specs.declared.Kind.{Kind}
 use Rattle.def_tree.specs.Tree.{Forest, is_leaf_kind, node_count, prefix}
 use Rattle.def_tree.specs.Rules.{is_same_kind, set_count, IsGameTree, most_actions}
-use Rattle.def_game_paths.specs.Recall.{HasPerfectRecall, RecallBreak, first_break, first_of_set, is_personal, recall_break}
+use Rattle.def_game_paths.specs.Recall.{HasPerfectRecall, RecallBreak, first_break, first_of_set, is_personal}
+use Rattle.def_game_paths.specs.Recall.{recall_break}
 use Rattle.def_game_paths.specs.Paths.{Visit, visits, Choice, own_choices}
 
 -- the first nodes of the sets of a kind whose numbers are above `seen`
 abbrev pub set_firsts : Kind → ℕ → List Visit → List Visit
 set_firsts kind seen [] = []
 set_firsts kind seen (v ∷ rest) =
-    if is_same_kind kind v.node.kind && nat_eq v.node.set (seen + 1) then v ∷ set_firsts kind (seen + 1) rest else set_firsts kind seen rest
+    if is_same_kind kind v.node.kind && nat_eq v.node.set (seen + 1) then v
+    ∷ set_firsts kind (seen + 1) rest else set_firsts kind seen rest
 
 -- how many actions each of the kind's sets has that these nodes are in
 abbrev pub sizes_so_far : Kind → List Visit → List ℕ
@@ -39,7 +43,8 @@ sequence_at kind tree v = sequence_number (set_sizes kind tree) (own_choices kin
 -- the n-th of those that end at these sets, the first of which has this number
 abbrev pub choice_from : ℕ → List ℕ → ℕ → Option Choice
 choice_from set [] n = None
-choice_from set (size ∷ rest) n = if nat_lt n size then Some (record { set = set; action = n + 1 }) else choice_from (set + 1) rest (n - size)
+choice_from set (size ∷ rest) n = if nat_lt n size then Some (record { set = set; action = n + 1 }) else choice_from
+    (set + 1) rest (n - size)
 
 -- the choice that a sequence ends with, and none for the empty one
 abbrev pub choice_of : List ℕ → ℕ → Option Choice
@@ -67,7 +72,8 @@ SetsAreInOrder = (tree : Forest) → IsGameTree tree → (kind : Kind) → is_le
 abbrev pub NumbersTellChoices : Type 0
 NumbersTellChoices = (tree : Forest) → IsGameTree tree → HasPerfectRecall tree → (kind : Kind) → is_personal kind ≡ true
     →
-    AllPairs (λ v w. (sequence_at kind tree v ≡ sequence_at kind tree w) ↔ (own_choices kind v.path ≡ own_choices kind w.path)) (visits tree)
+    AllPairs (λ v w. (sequence_at kind tree v ≡ sequence_at kind tree w)
+    ↔ (own_choices kind v.path ≡ own_choices kind w.path)) (visits tree)
 
 -- a sequence's number names the set and the action at which it ends, and each choice the sequence that ends with it
 pub record SequencesNameChoices : Type 0 where

@@ -1,5 +1,6 @@
 -- The walks over the probabilities: their signs and their sums.
-use Rattle.std.proofs.Common.{◌≡◌, ◌≢◌, ℕ, zero, suc, ◌-◌, ◌*◌, ◌≤◌, Bool, true, false, not, cond, ◌&&◌, List, [], ◌∷◌, length, take, refl, ap, sym, subst, ◌∙◌, arith, Some, None, inl, inr, ◌⊎◌}
+use Rattle.std.proofs.Common.{◌≡◌, ◌≢◌, ℕ, zero, suc, ◌-◌, ◌*◌, ◌≤◌, Bool, true, false, not, cond, ◌&&◌, List, [], ◌∷◌, length, take, refl, ap, sym, subst, ◌∙◌}
+use Rattle.std.proofs.Common.{arith, Some, None, inl, inr, ◌⊎◌}
 use Rattle.std.specs.Prelude.{Option, All, Any, ℤ, pos, negsuc, ◌*ℤ◌, ◌<ℤ◌, ◌≤ℤ◌, unsigned_abs, nat_eq, ◌||◌}
 use Rattle.std.specs.List.{list_any}
 use Rattle.std.proofs.lemmas.Bool.{and_from, and_parts, eqb-true, not-false, not-true}
@@ -16,8 +17,10 @@ use Rattle.def_fraction.proofs.FractionLemmas.{same_from_value}
 use Rattle.def_game_paths.specs.Paths.{Visit}
 use Rattle.def_game_scale.specs.Tables.{Tables, AreFractions, certain, probabilities}
 use Rattle.def_game_scale.proofs.Expected.{at-or, lowest-sum}
-use Rattle.def_game_scale.specs.Faults.{GameFault, ChanceNegative, ChanceSum, Scale, passing, number_after, is_chance, is_below_zero, is_negative, is_one, sign_fault, adding_fault, sum_fault}
-use Rattle.def_game_scale.specs.First.{OpensChanceSet, SignsPass, SignsFail, sum_from, RunningSumsFit, AddUpToOne, SumsPass, SumsFail, running_past, other_total}
+use Rattle.def_game_scale.specs.Faults.{GameFault, ChanceNegative, ChanceSum, Scale, passing, number_after, is_chance, is_below_zero, is_negative, is_one}
+use Rattle.def_game_scale.specs.Faults.{sign_fault, adding_fault, sum_fault}
+use Rattle.def_game_scale.specs.First.{OpensChanceSet, SignsPass, SignsFail, sum_from, RunningSumsFit, AddUpToOne, SumsPass, SumsFail, running_past}
+use Rattle.def_game_scale.specs.First.{other_total}
 use Rattle.def_game_scale.proofs.Walks.{passing_none, passing_some, passed, not_passed, IsWalk, each-all}
 
 pub is_chance-kind : (v : Visit) → is_chance v ≡ true → v.node.kind ≡ Chance
@@ -55,7 +58,8 @@ none_negative (p ∷ ps) e =
     All-cons (λ (q : Fraction). pos 0 ≤ℤ q.num) p ps (not_below_zero p.num parts.0) (none_negative ps parts.1)
 
 none_negative-is : (ps : List Fraction) → All (λ p. pos 0 ≤ℤ p.num) ps → list_any is_negative ps ≡ false
-none_negative-is ps all = list_any_none is_negative ps (All-weaker (λ (p : Fraction). pos 0 ≤ℤ p.num) (λ p. is_negative p ≡ false) (λ p h. not_below_zero-is p.num h) ps all)
+none_negative-is ps all = list_any_none is_negative ps (All-weaker (λ (p : Fraction). pos 0 ≤ℤ p.num) (λ p. is_negative p ≡ false)
+    (λ p h. not_below_zero-is p.num h) ps all)
 
 some_negative : (ps : List Fraction) → list_any is_negative ps ≡ true → Any (λ p. p.num <ℤ pos 0) ps
 some_negative ps e = let found = Any-from_list_any is_negative ps e in (found.0, found.1, found.2, found.3, below_zero found.1.num found.4)
@@ -78,7 +82,8 @@ sign_walk tables = record {
   passes = λ before v e chance.
       let ps = probabilities tables v.node.set in
       let test = (passing_none (not (is_chance v && list_any is_negative ps)) (ChanceNegative (number_after before)) None e).0 in
-      let found : true && list_any is_negative ps ≡ false = ap (λ c. c && list_any is_negative ps) (sym (kind-is_chance v chance)) ∙ not-true (is_chance v && list_any is_negative ps) test in
+      let found : true && list_any is_negative ps ≡ false = ap (λ c. c && list_any is_negative ps) (sym (kind-is_chance v chance))
+      ∙ not-true (is_chance v && list_any is_negative ps) test in
       none_negative ps found;
   none = λ before v pass. signs_pass tables before v (is_chance v) refl pass;
   fails = λ before v fault earlier e.
@@ -144,7 +149,8 @@ adding-none_by : (k : ℕ) (start : Fraction) (ps : List Fraction) → FitsFrom 
     → adding_fault k start ps ≡ None
 adding-none_by k start [] all one = passed (is_one start) (ChanceSum k) None one
 adding-none_by k start (p ∷ ps) all one =
-    passed (fits (sum_of start p)) (Scale k) (adding_fault k (sum_of start p) ps) (fits_first start p ps all) ∙ adding-none_by k (sum_of start p) ps (fits_later start p ps all) one
+    passed (fits (sum_of start p)) (Scale k) (adding_fault k (sum_of start p) ps) (fits_first start p ps all)
+    ∙ adding-none_by k (sum_of start p) ps (fits_later start p ps all) one
 
 record PastAt (k : ℕ) (start : Fraction) (ps : List Fraction) (fault : GameFault) : Type 0 where
   count : ℕ
@@ -185,7 +191,8 @@ adding-other : (k : ℕ) (start : Fraction) (ps : List Fraction) → FitsFrom st
     → adding_fault k start ps ≡ Some (ChanceSum k)
 adding-other k start [] all other = not_passed (is_one start) (ChanceSum k) None (ChanceSum k) other refl
 adding-other k start (p ∷ ps) all other =
-    passed (fits (sum_of start p)) (Scale k) (adding_fault k (sum_of start p) ps) (fits_first start p ps all) ∙ adding-other k (sum_of start p) ps (fits_later start p ps all) other
+    passed (fits (sum_of start p)) (Scale k) (adding_fault k (sum_of start p) ps) (fits_first start p ps all)
+    ∙ adding-other k (sum_of start p) ps (fits_later start p ps all) other
 
 -- the fraction 0 is in lowest terms
 pub nothing-lowest : IsInLowestTerms zero_fraction
@@ -212,16 +219,19 @@ is-certain f low e =
 sum_from-lowest : (start : Fraction) (ps : List Fraction) → IsInLowestTerms start → All IsInLowestTerms ps
     → IsInLowestTerms (sum_from start ps)
 sum_from-lowest start [] low all = low
-sum_from-lowest start (p ∷ ps) low all = sum_from-lowest (sum_of start p) ps (lowest-sum start p low.positive (All-head IsInLowestTerms p ps all).positive) (All-tail IsInLowestTerms p ps all)
+sum_from-lowest start (p ∷ ps) low all = sum_from-lowest (sum_of start p) ps (lowest-sum start p low.positive (All-head IsInLowestTerms p ps all).positive)
+    (All-tail IsInLowestTerms p ps all)
 
 total-lowest : (tables : Tables) (set : ℕ) → AreFractions tables
     → IsInLowestTerms (sum_from zero_fraction (probabilities tables set))
-total-lowest tables set h = sum_from-lowest zero_fraction (probabilities tables set) nothing-lowest (at-or (λ row. All IsInLowestTerms row) tables.chance (set - 1) [] h.chance (All-nil IsInLowestTerms))
+total-lowest tables set h = sum_from-lowest zero_fraction (probabilities tables set) nothing-lowest
+    (at-or (λ row. All IsInLowestTerms row) tables.chance (set - 1) [] h.chance (All-nil IsInLowestTerms))
 
 -- what a test answers at a chance node, and elsewhere
 at_chance : (tables : Tables) (before : List Visit) (v : Visit) → v.node.kind ≡ Chance
     → sum_fault tables before v ≡ adding_fault (number_after before) zero_fraction (probabilities tables v.node.set)
-at_chance tables before v chance = ap (λ c. cond c (adding_fault (number_after before) zero_fraction (probabilities tables v.node.set)) None) (kind-is_chance v chance)
+at_chance tables before v chance = ap (λ c. cond c (adding_fault (number_after before) zero_fraction (probabilities tables v.node.set)) None)
+    (kind-is_chance v chance)
 
 -- where a test that answers only at some nodes tells a fault, it is at such a node, and the answer there
 pub test_passed : (c : Bool) (o : Option GameFault) (fault : GameFault) → cond c o None ≡ Some fault
@@ -245,7 +255,8 @@ sum_walk tables h = record {
       let open_by : (RunningSumsFit ps × AddUpToOne ps → ⊥) → OpensChanceSet before v =
       opens (λ xs. RunningSumsFit xs × AddUpToOne xs) tables before v chance (each-all (SumsPass tables []) before earlier) in
       elim (adding-some k zero_fraction ps fault refl there.1) [
-        | inl past ↦ running_past (open_by (λ pass. let no : true ≡ false = sym (pass.0 past.count past.some) ∙ past.past in cc)) past.count past.some past.past past.fault_is
+        | inl past ↦ running_past (open_by (λ pass. let no : true ≡ false = sym (pass.0 past.count past.some) ∙ past.past in cc)) past.count past.some past.past
+            past.fault_is
         | inr other ↦
             let differs : sum_from zero_fraction ps ≢ certain = λ same. let no : true ≡ false = sym (ap is_one same) ∙ other.other in cc in
             other_total (open_by (λ pass. differs pass.1)) other.within differs other.fault_is
@@ -257,8 +268,10 @@ sum_walk tables h = record {
         → SumsPass tables before v → sum_fault tables before v ≡ None
     sums_pass tables before v true chance pass =
         let sums = pass (is_chance-kind v chance) in
-        at_chance tables before v (is_chance-kind v chance) ∙ adding-none_by (number_after before) zero_fraction (probabilities tables v.node.set) sums.0 (ap is_one sums.1)
-    sums_pass tables before v false other pass = ap (λ c. cond c (adding_fault (number_after before) zero_fraction (probabilities tables v.node.set)) None) other
+        at_chance tables before v (is_chance-kind v chance) ∙ adding-none_by (number_after before) zero_fraction (probabilities tables v.node.set) sums.0
+        (ap is_one sums.1)
+    sums_pass tables before v false other pass = ap (λ c. cond c (adding_fault (number_after before) zero_fraction (probabilities tables v.node.set)) None)
+        other
 
     not_one : (f : Fraction) → IsInLowestTerms f → f ≢ certain → is_one f ≡ false
     not_one f low differs = elim (is_one f) as (λ b. is_one f ≡ b → b ≡ false) [
@@ -269,8 +282,10 @@ sum_walk tables h = record {
     sums_fail : (tables : Tables) → AreFractions tables → (before : List Visit) (v : Visit) (fault : GameFault)
         → SumsFail tables before v fault → sum_fault tables before v ≡ Some fault
     sums_fail tables h before v fault (running_past opens n some past is) =
-        at_chance tables before v opens.chance ∙ adding-past (number_after before) zero_fraction (probabilities tables v.node.set) n refl some past ∙ ap Some (sym is)
+        at_chance tables before v opens.chance ∙ adding-past (number_after before) zero_fraction (probabilities tables v.node.set) n refl some past
+        ∙ ap Some (sym is)
     sums_fail tables h before v fault (other_total opens within differs is) =
         at_chance tables before v opens.chance
-        ∙ adding-other (number_after before) zero_fraction (probabilities tables v.node.set) within (not_one (sum_from zero_fraction (probabilities tables v.node.set)) (total-lowest tables v.node.set h) differs)
+        ∙ adding-other (number_after before) zero_fraction (probabilities tables v.node.set) within
+        (not_one (sum_from zero_fraction (probabilities tables v.node.set)) (total-lowest tables v.node.set h) differs)
         ∙ ap Some (sym is)

@@ -12,7 +12,8 @@ use Rattle.def_fraction.specs.Fraction.{Fraction, IsInLowestTerms, product_of, s
 use Rattle.def_fraction.proofs.DivisorLemmas.{gcd-with_one}
 use Rattle.def_fraction.proofs.FractionLemmas.{fraction_of-reduced}
 use Rattle.def_game_paths.specs.Paths.{Move, Visit, leaf_visits}
-use Rattle.def_game_scale.specs.Tables.{PayoffPair, Tables, AreFractions, first_sum, paid_together, probability, payoffs_of, reach, path_payoff, payoff_one, payoff_two}
+use Rattle.def_game_scale.specs.Tables.{PayoffPair, Tables, AreFractions, first_sum, paid_together, probability, payoffs_of, reach, path_payoff, payoff_one}
+use Rattle.def_game_scale.specs.Tables.{payoff_two}
 use Rattle.def_game_scale.specs.Scale.{all_expected, all_fractions, expected}
 
 abbrev pub HasDenominator : Fraction → Type 0
@@ -41,35 +42,42 @@ probability-fraction tables set action h =
 one-fraction : (tables : Tables) (outcome : ℕ) → AreFractions tables → HasDenominator (payoffs_of tables outcome).one
 one-fraction tables zero h = omega arith
 one-fraction tables (suc outcome) h =
-    at-or (λ (payoffs : PayoffPair). HasDenominator payoffs.one) tables.outcomes outcome (record { one = zero_fraction; two = zero_fraction }) (λ k d there. (h.outcomes k d there).0.positive) (omega arith)
+    at-or (λ (payoffs : PayoffPair). HasDenominator payoffs.one) tables.outcomes outcome (record { one = zero_fraction; two = zero_fraction })
+    (λ k d there. (h.outcomes k d there).0.positive) (omega arith)
 
 two-fraction : (tables : Tables) (outcome : ℕ) → AreFractions tables → HasDenominator (payoffs_of tables outcome).two
 two-fraction tables zero h = omega arith
 two-fraction tables (suc outcome) h =
-    at-or (λ (payoffs : PayoffPair). HasDenominator payoffs.two) tables.outcomes outcome (record { one = zero_fraction; two = zero_fraction }) (λ k d there. (h.outcomes k d there).1.positive) (omega arith)
+    at-or (λ (payoffs : PayoffPair). HasDenominator payoffs.two) tables.outcomes outcome (record { one = zero_fraction; two = zero_fraction })
+    (λ k d there. (h.outcomes k d there).1.positive) (omega arith)
 
 reach-fraction : (tables : Tables) (path : List Move) → AreFractions tables → HasDenominator (reach tables path)
 reach-fraction tables [] h = omega arith
 reach-fraction tables (step ∷ rest) h =
-    elim (is_same_kind Chance step.node.kind) as (λ b. HasDenominator (cond b (product_of (reach tables rest) (probability tables step.node.set step.action)) (reach tables rest))) [
-      | true ↦ (lowest-product (reach tables rest) (probability tables step.node.set step.action) (reach-fraction tables rest h) (probability-fraction tables step.node.set step.action h)).positive
+    elim (is_same_kind Chance step.node.kind) as (λ b. HasDenominator (cond b (product_of (reach tables rest) (probability tables step.node.set step.action))
+    (reach tables rest))) [
+      | true ↦ (lowest-product (reach tables rest) (probability tables step.node.set step.action) (reach-fraction tables rest h)
+          (probability-fraction tables step.node.set step.action h)).positive
       | false ↦ reach-fraction tables rest h
     ]
 
 path-fraction : (of : PayoffPair → Fraction) (tables : Tables) (path : List Move)
     → ((outcome : ℕ) → HasDenominator (of (payoffs_of tables outcome))) → HasDenominator (path_payoff of tables path)
 path-fraction of tables [] h = omega arith
-path-fraction of tables (step ∷ rest) h = (lowest-sum (path_payoff of tables rest) (of (payoffs_of tables step.node.outcome)) (path-fraction of tables rest h) (h step.node.outcome)).positive
+path-fraction of tables (step ∷ rest) h = (lowest-sum (path_payoff of tables rest) (of (payoffs_of tables step.node.outcome)) (path-fraction of tables rest h)
+    (h step.node.outcome)).positive
 
 one-lowest : (tables : Tables) (v : Visit) → AreFractions tables → IsInLowestTerms (payoff_one tables v)
 one-lowest tables v h =
     let each : (outcome : ℕ) → HasDenominator (payoffs_of tables outcome).one = λ outcome. one-fraction tables outcome h in
-    lowest-sum (path_payoff (λ payoffs. payoffs.one) tables v.path) (payoffs_of tables v.node.outcome).one (path-fraction (λ payoffs. payoffs.one) tables v.path each) (each v.node.outcome)
+    lowest-sum (path_payoff (λ payoffs. payoffs.one) tables v.path) (payoffs_of tables v.node.outcome).one
+    (path-fraction (λ payoffs. payoffs.one) tables v.path each) (each v.node.outcome)
 
 two-lowest : (tables : Tables) (v : Visit) → AreFractions tables → IsInLowestTerms (payoff_two tables v)
 two-lowest tables v h =
     let each : (outcome : ℕ) → HasDenominator (payoffs_of tables outcome).two = λ outcome. two-fraction tables outcome h in
-    lowest-sum (path_payoff (λ payoffs. payoffs.two) tables v.path) (payoffs_of tables v.node.outcome).two (path-fraction (λ payoffs. payoffs.two) tables v.path each) (each v.node.outcome)
+    lowest-sum (path_payoff (λ payoffs. payoffs.two) tables v.path) (payoffs_of tables v.node.outcome).two
+    (path-fraction (λ payoffs. payoffs.two) tables v.path each) (each v.node.outcome)
 
 -- what a leaf pays both players together is in lowest terms
 pub paid-lowest : (tables : Tables) (v : Visit) → AreFractions tables → IsInLowestTerms (paid_together tables v)
@@ -82,7 +90,8 @@ first-lowest tables (v ∷ vs) h = paid-lowest tables v h
 
 -- reach times payoff of a leaf is in lowest terms
 pub expected-lowest : (tables : Tables) (leaf : Visit) → AreFractions tables → IsInLowestTerms (expected tables leaf)
-expected-lowest tables leaf h = lowest-product (reach tables leaf.path) (payoff_one tables leaf) (reach-fraction tables leaf.path h) (one-lowest tables leaf h).positive
+expected-lowest tables leaf h = lowest-product (reach tables leaf.path) (payoff_one tables leaf) (reach-fraction tables leaf.path h)
+    (one-lowest tables leaf h).positive
 
 -- what the leaves of a tree are expected to pay is in lowest terms at each
 pub all-lowest : (tables : Tables) (tree : Forest) → AreFractions tables
@@ -92,4 +101,5 @@ all-lowest tables tree h = All-map IsInLowestTerms (expected tables) (leaf_visit
 -- and so is all that the unit makes whole
 pub fractions-lowest : (tables : Tables) (tree : Forest) → AreFractions tables
     → All IsInLowestTerms (all_fractions tables tree)
-fractions-lowest tables tree h = All-cons IsInLowestTerms (first_sum tables (leaf_visits tree)) (all_expected tables tree) (first-lowest tables (leaf_visits tree) h) (all-lowest tables tree h)
+fractions-lowest tables tree h = All-cons IsInLowestTerms (first_sum tables (leaf_visits tree)) (all_expected tables tree)
+    (first-lowest tables (leaf_visits tree) h) (all-lowest tables tree h)

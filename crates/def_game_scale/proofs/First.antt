@@ -9,8 +9,10 @@ use Rattle.def_game_paths.specs.Recall.{HasPerfectRecall, IsFirstBreak, RecallBr
 use Rattle.def_game_paths.proofs.Breaks.{break_first, none_of_recall, recall_of_none, same_set}
 use Rattle.def_game_scale.specs.Tables.{Tables, AreFractions}
 use Rattle.def_game_scale.specs.Scale.{game_unit, whole_sum}
-use Rattle.def_game_scale.specs.Faults.{GameFault, NotRecall, or_else, found_by, sign_fault, sum_fault, node_fault, whole_sum_fault, mass_fault, number_fault, of_recall}
-use Rattle.def_game_scale.specs.First.{SignsPass, SignsFail, SumsPass, SumsFail, NodePasses, NodeFails, WholeSumPasses, WholeSumFails, MassPasses, MassFails, in_signs, in_sums, in_nodes, in_whole_sum, in_masses, RecallFails, in_numbers, in_recall}
+use Rattle.def_game_scale.specs.Faults.{GameFault, NotRecall, or_else, found_by, sign_fault, sum_fault, node_fault, whole_sum_fault, mass_fault, number_fault}
+use Rattle.def_game_scale.specs.Faults.{of_recall}
+use Rattle.def_game_scale.specs.First.{SignsPass, SignsFail, SumsPass, SumsFail, NodePasses, NodeFails, WholeSumPasses, WholeSumFails, MassPasses, MassFails}
+use Rattle.def_game_scale.specs.First.{in_signs, in_sums, in_nodes, in_whole_sum, in_masses, RecallFails, in_numbers, in_recall}
 use Rattle.def_game_scale.specs.FaultLaws.{FindsFirstNumberFault, FindsFirstFault}
 use Rattle.def_game_scale.proofs.Walks.{or_none, or_some, none_iff, some_iff}
 use Rattle.def_game_scale.proofs.Chance.{sign_walk, sum_walk}
@@ -115,7 +117,8 @@ one_break tree d x y p q =
     none_earlier x y p q nodes before =
         let range = p.breaks.in_range in
         let low : 1 ≤ x.earlier = range.0 in
-        let no : true ≡ false = sym p.breaks.set ∙ ap (λ n. is_same_set (at_number tree d x.earlier).node (at_number tree d n).node) nodes ∙ q.breaks.first x.earlier low before in
+        let no : true ≡ false = sym p.breaks.set ∙ ap (λ n. is_same_set (at_number tree d x.earlier).node (at_number tree d n).node) nodes
+        ∙ q.breaks.first x.earlier low before in
         cc no
 
     earliers : x.node ≡ y.node → x.earlier ≡ y.earlier

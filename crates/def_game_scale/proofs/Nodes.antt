@@ -3,14 +3,16 @@ use Rattle.std.proofs.Common.{◌≡◌, ◌≢◌, ℕ, ◌<◌, ◌≤◌, Boo
 use Rattle.std.specs.Prelude.{Option, ℤ, pos, negsuc, unsigned_abs, eqb, nat_le, nat_lt}
 use Rattle.std.specs.Bool.{Decides}
 use Rattle.std.specs.Ordering.{int_eq}
-use Rattle.std.proofs.lemmas.Bool.{and_from, and_parts, false_from_ne_true, le-leb, le-ltb, leb-false, leb-true, lt-leb, lt-ltb, ltb-false, ltb-true, not-false, not-true}
+use Rattle.std.proofs.lemmas.Bool.{and_from, and_parts, false_from_ne_true, le-leb, le-ltb, leb-false, leb-true, lt-leb, lt-ltb, ltb-false, ltb-true, not-false}
+use Rattle.std.proofs.lemmas.Bool.{not-true}
 use Rattle.std.proofs.lemmas.Bool.Decides.{Decides-and, Decides-eqb, Decides-int_eq, Decides-like}
 use Rattle.def_fraction.specs.Fraction.{Fraction, fits, most}
 use Rattle.def_game_paths.specs.Paths.{Visit, is_leaf}
 use Rattle.def_game_scale.specs.Tables.{Tables, paid_together, payoff_one, payoff_two, reach}
 use Rattle.def_game_scale.specs.Scale.{expected, mass_so_far, sum_so_far, unit_so_far}
 use Rattle.def_game_scale.specs.Faults.{GameFault, NotConstantSum, Scale, passing, number_after, is_same, leaf_fault, node_fault, mass_fault, whole_sum_fault}
-use Rattle.def_game_scale.specs.First.{PathFits, LeafPasses, NodePasses, NodeFails, reach_past, one_past, two_past, sum_past, not_constant_sum, expected_past, unit_past, MassPasses, MassFails, WholeSumPasses, WholeSumFails}
+use Rattle.def_game_scale.specs.First.{PathFits, LeafPasses, NodePasses, NodeFails, reach_past, one_past, two_past, sum_past, not_constant_sum, expected_past}
+use Rattle.def_game_scale.specs.First.{unit_past, MassPasses, MassFails, WholeSumPasses, WholeSumFails}
 use Rattle.def_game_scale.proofs.Walks.{each-all, passing_none, passing_some, passed, not_passed, IsWalk}
 use Rattle.def_game_scale.proofs.Chance.{test_passed}
 
@@ -107,7 +109,8 @@ after_path tables before v path =
     let k = Scale (number_after before) in
     let rest : Option GameFault = cond (is_leaf v) (leaf_fault tables before v) None in
     passed (fits (reach tables v.path)) k (passing (fits (payoff_one tables v)) k (passing (fits (payoff_two tables v)) k rest)) path.reach_fits
-    ∙ passed (fits (payoff_one tables v)) k (passing (fits (payoff_two tables v)) k rest) path.one_fits ∙ passed (fits (payoff_two tables v)) k rest path.two_fits
+    ∙ passed (fits (payoff_one tables v)) k (passing (fits (payoff_two tables v)) k rest) path.one_fits
+    ∙ passed (fits (payoff_two tables v)) k rest path.two_fits
 
 at_leaf : (tables : Tables) (before : List Visit) (v : Visit) → PathFits tables v → is_leaf v ≡ true
     → node_fault tables before v ≡ leaf_fault tables before v
@@ -196,7 +199,8 @@ leaf_passes b over test leaf = ap (λ t. t && over) (sym leaf) ∙ not-true (b &
 -- the test of the sum in the unit tells exactly the first leaf, where the size passes the limit
 pub whole_sum_walk : (size : ℕ) → IsWalk (whole_sum_fault size) (WholeSumPasses size) (WholeSumFails size)
 whole_sum_walk size = record {
-  passes = λ before v e leaf. ltb-false most size (leaf_passes (is_leaf v) (nat_lt most size) (passing_none (not (is_leaf v && nat_lt most size)) (Scale (number_after before)) None e).0 leaf);
+  passes = λ before v e leaf. ltb-false most size (leaf_passes (is_leaf v) (nat_lt most size)
+      (passing_none (not (is_leaf v && nat_lt most size)) (Scale (number_after before)) None e).0 leaf);
   none = λ before v pass. none_by before v (is_leaf v) refl pass;
   fails = λ before v fault earlier e. elim (passing_some (not (is_leaf v && nat_lt most size)) (Scale (number_after before)) None fault e) [
     | inl here ↦
@@ -212,14 +216,17 @@ whole_sum_walk size = record {
     | inr none ↦ let no = none.1 in cc
   ];
   some = λ before v fault fails.
-      not_passed (not (is_leaf v && nat_lt most size)) (Scale (number_after before)) None fault (ap not (and_from (is_leaf v) (nat_lt most size) fails.leaf (lt-ltb most size fails.past))) fails.fault_is;
+      not_passed (not (is_leaf v && nat_lt most size)) (Scale (number_after before)) None fault
+      (ap not (and_from (is_leaf v) (nat_lt most size) fails.leaf (lt-ltb most size fails.past))) fails.fault_is;
 }
   where
     none_by : (before : List Visit) (v : Visit) (b : Bool) → is_leaf v ≡ b → WholeSumPasses size before v
         → whole_sum_fault size before v ≡ None
     none_by before v true leaf pass =
-        passed (not (is_leaf v && nat_lt most size)) (Scale (number_after before)) None (ap not (ap (λ b. b && nat_lt most size) leaf ∙ le-ltb most size (pass leaf)))
-    none_by before v false inner pass = passed (not (is_leaf v && nat_lt most size)) (Scale (number_after before)) None (ap (λ b. not (b && nat_lt most size)) inner)
+        passed (not (is_leaf v && nat_lt most size)) (Scale (number_after before)) None
+        (ap not (ap (λ b. b && nat_lt most size) leaf ∙ le-ltb most size (pass leaf)))
+    none_by before v false inner pass = passed (not (is_leaf v && nat_lt most size)) (Scale (number_after before)) None
+        (ap (λ b. not (b && nat_lt most size)) inner)
 
 -- the test of the mass tells exactly the leaf at which the mass so far passes the limit
 pub mass_walk : (tables : Tables) (unit : ℕ)
@@ -240,14 +247,16 @@ mass_walk tables unit = record {
       ];
   some = λ before v fault fails.
       let mass : ℕ = mass_so_far tables unit (before ++ (v ∷ [])) in
-      not_passed (not (is_leaf v && nat_lt most mass)) (Scale (number_after before)) None fault (ap not (and_from (is_leaf v) (nat_lt most mass) fails.leaf (lt-ltb most mass fails.past))) fails.fault_is;
+      not_passed (not (is_leaf v && nat_lt most mass)) (Scale (number_after before)) None fault
+      (ap not (and_from (is_leaf v) (nat_lt most mass) fails.leaf (lt-ltb most mass fails.past))) fails.fault_is;
 }
   where
     mass_none_by : (before : List Visit) (v : Visit) (b : Bool) → is_leaf v ≡ b → MassPasses tables unit before v
         → mass_fault tables unit before v ≡ None
     mass_none_by before v true leaf pass =
         let mass : ℕ = mass_so_far tables unit (before ++ (v ∷ [])) in
-        passed (not (is_leaf v && nat_lt most mass)) (Scale (number_after before)) None (ap not (ap (λ b. b && nat_lt most mass) leaf ∙ le-ltb most mass (pass leaf)))
+        passed (not (is_leaf v && nat_lt most mass)) (Scale (number_after before)) None
+        (ap not (ap (λ b. b && nat_lt most mass) leaf ∙ le-ltb most mass (pass leaf)))
     mass_none_by before v false inner pass =
         let mass : ℕ = mass_so_far tables unit (before ++ (v ∷ [])) in
         passed (not (is_leaf v && nat_lt most mass)) (Scale (number_after before)) None (ap (λ b. not (b && nat_lt most mass)) inner)

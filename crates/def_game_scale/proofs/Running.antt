@@ -34,11 +34,13 @@ unit-snoc fs f low last =
     (unit-divides all m all_low (All-append (Divides m) fs (f ∷ [])
     (All-weaker (Divides (unit_of fs)) (Divides m) (λ x divides. dvd_trans x.den divides least.second_divides) fs (den-divides fs low))
     (All-cons (Divides m) f [] least.first_divides (All-nil (Divides m)))))
-    (least.least (unit_of all) (All-head (Divides (unit_of all)) f [] (All-behind (Divides (unit_of all)) fs (f ∷ []) dens)) (unit-divides fs (unit_of all) low (All-front (Divides (unit_of all)) fs (f ∷ []) dens)))
+    (least.least (unit_of all) (All-head (Divides (unit_of all)) f [] (All-behind (Divides (unit_of all)) fs (f ∷ []) dens))
+    (unit-divides fs (unit_of all) low (All-front (Divides (unit_of all)) fs (f ∷ []) dens)))
 
 expected_at-lowest : (tables : Tables) (vs : List Visit) → AreFractions tables
     → All IsInLowestTerms (expected_at tables vs)
-expected_at-lowest tables vs h = All-map IsInLowestTerms (expected tables) (filter is_leaf vs) (λ k d there. expected-lowest tables (get_or (filter is_leaf vs) k d) h)
+expected_at-lowest tables vs h = All-map IsInLowestTerms (expected tables) (filter is_leaf vs)
+    (λ k d there. expected-lowest tables (get_or (filter is_leaf vs) k d) h)
 
 -- what the nodes pay with one more, which is a leaf or not
 expected-snoc : (tables : Tables) (before : List Visit) (v : Visit) (b : Bool) → is_leaf v ≡ b →
@@ -56,8 +58,10 @@ mass-snoc : (unit : ℕ) (fs : List Fraction) (f : Fraction)
     → sum (map unsigned_abs (map (weight_of unit) (fs ++ (f ∷ []))))
     ≡ sum (map unsigned_abs (map (weight_of unit) fs)) + unsigned_abs (weight_of unit f)
 mass-snoc unit fs f =
-    ap (λ ws. sum (map unsigned_abs ws)) (map-append (weight_of unit) fs (f ∷ [])) ∙ ap sum (map-append unsigned_abs (map (weight_of unit) fs) (weight_of unit f ∷ []))
-    ∙ sum_by-append (λ x. x) (map unsigned_abs (map (weight_of unit) fs)) (unsigned_abs (weight_of unit f) ∷ []) ∙ ap (λ k. sum (map unsigned_abs (map (weight_of unit) fs)) + k) (from_zero (unsigned_abs (weight_of unit f)))
+    ap (λ ws. sum (map unsigned_abs ws)) (map-append (weight_of unit) fs (f ∷ []))
+    ∙ ap sum (map-append unsigned_abs (map (weight_of unit) fs) (weight_of unit f ∷ []))
+    ∙ sum_by-append (λ x. x) (map unsigned_abs (map (weight_of unit) fs)) (unsigned_abs (weight_of unit f) ∷ [])
+    ∙ ap (λ k. sum (map unsigned_abs (map (weight_of unit) fs)) + k) (from_zero (unsigned_abs (weight_of unit f)))
   where
     from_zero : (k : ℕ) → 0 + k ≡ k
     from_zero k = omega arith
@@ -90,7 +94,8 @@ sum-behind tables before after some =
         → first_sum tables (filter is_leaf nodes ++ filter is_leaf after) ≡ first_sum tables (filter is_leaf nodes)
     by [] some = cc
     by (w ∷ rest) some =
-        elim (is_leaf w) as (λ b. is_leaf w ≡ b → first_sum tables (cond b (w ∷ filter is_leaf rest) (filter is_leaf rest) ++ filter is_leaf after) ≡ first_sum tables (cond b (w ∷ filter is_leaf rest) (filter is_leaf rest))) [
+        elim (is_leaf w) as (λ b. is_leaf w ≡ b → first_sum tables (cond b (w ∷ filter is_leaf rest) (filter is_leaf rest) ++ filter is_leaf after)
+        ≡ first_sum tables (cond b (w ∷ filter is_leaf rest) (filter is_leaf rest))) [
           | true ↦ λ leaf. refl
           | false ↦ λ inner. by rest (ap (λ b. b || list_any is_leaf rest) (sym inner) ∙ some)
         ] refl
@@ -124,7 +129,8 @@ leaf-unit tables h before v leaf =
     let new_low : IsInLowestTerms new = first-lowest tables (filter is_leaf (before ++ (v ∷ []))) h in
     ap (λ gs. unit_of (new ∷ gs)) (expected-snoc tables before v true leaf)
     ∙ unit-snoc (new ∷ fs) (expected tables v) (All-cons IsInLowestTerms new fs new_low low) (expected-lowest tables v h)
-    ∙ ap (lcm (expected tables v).den) (sym (lcm-absorbs old.den new.den (unit_of fs) old_low.positive new_low.positive (unit-positive fs low) (sum-divides_next tables before v)))
+    ∙ ap (lcm (expected tables v).den) (sym (lcm-absorbs old.den new.den (unit_of fs) old_low.positive new_low.positive (unit-positive fs low)
+    (sum-divides_next tables before v)))
 
 -- a leaf takes its denominator into the unit and its weight into the mass; other nodes change neither
 pub grows : (tables : Tables) → AreFractions tables → (unit : ℕ) (before : List Visit) (v : Visit)
@@ -161,5 +167,6 @@ running tables h = record {
     sum-in_unit : (nodes : List Visit) → (sum_so_far tables nodes).den ∣ unit_so_far tables nodes
     sum-in_unit nodes =
         let all : List Fraction = sum_so_far tables nodes ∷ expected_at tables nodes in
-        let low = All-cons IsInLowestTerms (sum_so_far tables nodes) (expected_at tables nodes) (first-lowest tables (filter is_leaf nodes) h) (expected_at-lowest tables nodes h) in
+        let low = All-cons IsInLowestTerms (sum_so_far tables nodes) (expected_at tables nodes) (first-lowest tables (filter is_leaf nodes) h)
+        (expected_at-lowest tables nodes h) in
         All-head (λ (f : Fraction). f.den ∣ unit_of all) (sum_so_far tables nodes) (expected_at tables nodes) (den-divides all low)

@@ -43,14 +43,16 @@ within_along f inner done (v ∷ rest) start each =
     ] refl in
     subst (λ d. f d ≤ most) (append_assoc done (v ∷ []) rest)
     (within_along f inner (done ++ (v ∷ [])) rest next
-    (λ before w after p leaf. subst (λ d. f (d ++ (w ∷ [])) ≤ most) (sym (append_assoc done (v ∷ []) before)) (each (v ∷ before) w after (ap (λ xs. v ∷ xs) p) leaf)))
+    (λ before w after p leaf. subst (λ d. f (d ++ (w ∷ [])) ≤ most) (sym (append_assoc done (v ∷ []) before))
+    (each (v ∷ before) w after (ap (λ xs. v ∷ xs) p) leaf)))
 
 -- the sum up to a leaf is that of all nodes
 sum-at_leaf : (tables : Tables) (nodes before : List Visit) (v : Visit) (after : List Visit)
     → nodes ≡ before ++ (v ∷ after) → is_leaf v ≡ true
     → sum_so_far tables (before ++ (v ∷ [])) ≡ sum_so_far tables nodes
 sum-at_leaf tables nodes before v after p leaf =
-    sym (ap (sum_so_far tables) (p ∙ sym (append_assoc before (v ∷ []) after)) ∙ sum-behind tables (before ++ (v ∷ [])) after (Any-push (λ w. is_leaf w ≡ true) before v leaf))
+    sym (ap (sum_so_far tables) (p ∙ sym (append_assoc before (v ∷ []) after))
+    ∙ sum-behind tables (before ++ (v ∷ [])) after (Any-push (λ w. is_leaf w ≡ true) before v leaf))
 
 -- numbers are sound where the tables' fractions are in lowest terms and each node passes each walk over the numbers
 pub passing_numbers : (tables : Tables) (tree : Forest) → AreFractions tables → PassNumbers tables tree
@@ -64,12 +66,17 @@ passing_numbers tables tree h numbers =
     let sums = each-all (SumsPass tables []) nodes numbers.sums in
     record {
       chance = λ k d there chance. record { positive = signs k d there chance; total = (sums k d there chance).1 };
-      constant_sum = leaves-all PaysIt nodes (each-all (λ v. is_leaf v ≡ true → PaysIt v) nodes (λ before v after p leaf. ((numbers.nodes before v after p).leaf leaf).pays_the_sum ∙ sum-at_leaf tables nodes before v after p leaf));
+      constant_sum = leaves-all PaysIt nodes (each-all (λ v. is_leaf v ≡ true → PaysIt v) nodes
+          (λ before v after p leaf. ((numbers.nodes before v after p).leaf leaf).pays_the_sum ∙ sum-at_leaf tables nodes before v after p leaf));
       unit_within =
-          within_along (unit_so_far tables) (λ before v other. (grows tables h unit before v).inner_unit other) [] nodes (omega arith) (λ before v after p leaf. ((numbers.nodes before v after p).leaf leaf).unit_fits);
-      whole_sum_within = within_along (λ vs. unsigned_abs (weight_of unit (sum_so_far tables vs))) (λ before v other. ap (λ f. unsigned_abs (weight_of unit f)) (inner-sum tables before v other)) [] nodes (omega arith)
-          (λ before v after p leaf. subst (λ f. unsigned_abs (weight_of unit f) ≤ most) (sym (sum-at_leaf tables nodes before v after p leaf)) (numbers.whole before v after p leaf));
-      mass_within = within_along (mass_so_far tables unit) (λ before v other. (grows tables h unit before v).inner_mass other) [] nodes (omega arith) (λ before v after p leaf. numbers.masses before v after p leaf);
+          within_along (unit_so_far tables) (λ before v other. (grows tables h unit before v).inner_unit other) [] nodes (omega arith)
+          (λ before v after p leaf. ((numbers.nodes before v after p).leaf leaf).unit_fits);
+      whole_sum_within = within_along (λ vs. unsigned_abs (weight_of unit (sum_so_far tables vs)))
+          (λ before v other. ap (λ f. unsigned_abs (weight_of unit f)) (inner-sum tables before v other)) [] nodes (omega arith)
+          (λ before v after p leaf. subst (λ f. unsigned_abs (weight_of unit f) ≤ most) (sym (sum-at_leaf tables nodes before v after p leaf))
+          (numbers.whole before v after p leaf));
+      mass_within = within_along (mass_so_far tables unit) (λ before v other. (grows tables h unit before v).inner_mass other) [] nodes (omega arith)
+          (λ before v after p leaf. numbers.masses before v after p leaf);
     }
 
 -- numbers without a fault are probabilities and payoffs of constant sum, with unit, sum and mass within the limit

@@ -34,7 +34,8 @@ lcm-absorbs a b c some_a some_b some_c divides =
 -- the unit of fractions in lowest terms isn't 0
 pub unit-positive : (fs : List Fraction) → All IsInLowestTerms fs → 1 ≤ unit_of fs
 unit-positive [] h = omega arith
-unit-positive (f ∷ rest) h = lcm-positive f.den (unit_of rest) (All-head IsInLowestTerms f rest h).positive (unit-positive rest (All-tail IsInLowestTerms f rest h))
+unit-positive (f ∷ rest) h = lcm-positive f.den (unit_of rest) (All-head IsInLowestTerms f rest h).positive
+    (unit-positive rest (All-tail IsInLowestTerms f rest h))
 
 -- each of the denominators divides the unit
 pub den-divides : (fs : List Fraction) → All IsInLowestTerms fs → All (λ f. f.den ∣ unit_of fs) fs
@@ -42,7 +43,8 @@ den-divides [] h = All-nil (λ f. f.den ∣ 1)
 den-divides (f ∷ rest) h =
     let least = IsLcm-lcm f.den (unit_of rest) (All-head IsInLowestTerms f rest h).positive (unit-positive rest (All-tail IsInLowestTerms f rest h)) in
     All-cons (λ x. x.den ∣ unit_of (f ∷ rest)) f rest least.first_divides
-    (All-weaker (λ x. x.den ∣ unit_of rest) (λ x. x.den ∣ unit_of (f ∷ rest)) (λ x divides. dvd_trans x.den divides least.second_divides) rest (den-divides rest (All-tail IsInLowestTerms f rest h)))
+    (All-weaker (λ x. x.den ∣ unit_of rest) (λ x. x.den ∣ unit_of (f ∷ rest)) (λ x divides. dvd_trans x.den divides least.second_divides) rest
+    (den-divides rest (All-tail IsInLowestTerms f rest h)))
 
 -- the unit divides each number that all the denominators divide
 pub unit-divides : (fs : List Fraction) (m : ℕ) → All IsInLowestTerms fs → All (λ f. f.den ∣ m) fs → unit_of fs ∣ m
@@ -54,7 +56,8 @@ unit-divides (f ∷ rest) m h all =
 -- what makes a fraction in lowest terms whole is a multiple of its denominator
 den-divides_whole : (m : ℕ) (f : Fraction) → IsInLowestTerms f → MakesWhole m f → f.den ∣ m
 den-divides_whole m f low whole =
-    let sizes : unsigned_abs whole.0 * f.den ≡ unsigned_abs f.num * m = sym (unsigned_abs-mul whole.0 (pos f.den)) ∙ ap unsigned_abs whole.1 ∙ unsigned_abs-mul f.num (pos m) in
+    let sizes : unsigned_abs whole.0 * f.den ≡ unsigned_abs f.num * m = sym (unsigned_abs-mul whole.0 (pos f.den)) ∙ ap unsigned_abs whole.1
+    ∙ unsigned_abs-mul f.num (pos m) in
     let P : ℕ → Type 0 = λ x. f.den ∣ x in
     divides_other (unsigned_abs f.num) f.den m low.coprime (subst P sizes (dvd-mul_left f.den (unsigned_abs whole.0)))
 
@@ -71,7 +74,8 @@ unit_is_least fs low =
       positive = unit-positive fs low;
       multiple = den-divides fs low;
       least_multiple = λ m all. unit-divides fs m low all;
-      whole = All-weaker (λ f. f.den ∣ unit_of fs) (λ f. IsMultiple (unit_of fs) f (weight_of (unit_of fs) f)) (λ f d. whole-weight (unit_of fs) f d) fs (den-divides fs low);
+      whole = All-weaker (λ f. f.den ∣ unit_of fs) (λ f. IsMultiple (unit_of fs) f (weight_of (unit_of fs) f)) (λ f d. whole-weight (unit_of fs) f d) fs
+          (den-divides fs low);
       divides = divides;
       least = λ m some whole. le_of_dvd some (divides m whole);
     }

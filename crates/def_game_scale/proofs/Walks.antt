@@ -136,10 +136,18 @@ some_iff test Passes Fails walk nodes fault = (
   λ e.
       let found = some_at test [] nodes fault e in
       let earlier = (none_iff test Passes Fails walk found.before).0 found.none in
-      record { before = found.before; node = found.node; after = found.after; place = found.place; earlier = earlier; fails = walk.fails found.before found.node fault earlier found.is },
+      record {
+        before = found.before;
+        node = found.node;
+        after = found.after;
+        place = found.place;
+        earlier = earlier;
+        fails = walk.fails found.before found.node fault earlier found.is;
+      },
   λ first.
       ap (found_by test []) first.place
-      ∙ some_by test [] first.before first.node first.after fault ((none_iff test Passes Fails walk first.before).1 first.earlier) (walk.some first.before first.node fault first.fails),
+      ∙ some_by test [] first.before first.node first.after fault ((none_iff test Passes Fails walk first.before).1 first.earlier)
+      (walk.some first.before first.node fault first.fails),
 )
 
 -- where what passes doesn't rest on the nodes before, all of them have it

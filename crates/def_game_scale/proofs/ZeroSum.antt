@@ -32,7 +32,8 @@ as_zero_sum tables tree =
     let sum : Fraction = game_sum tables tree in
     record {
       constant = (
-        λ zero. let none : sum ≡ zero_fraction = first-zero tables leaves zero in (All-weaker (λ v. paid_together tables v ≡ zero_fraction) (λ v. paid_together tables v ≡ sum) (λ v e. e ∙ sym none) leaves zero, none),
+        λ zero. let none : sum ≡ zero_fraction = first-zero tables leaves
+            zero in (All-weaker (λ v. paid_together tables v ≡ zero_fraction) (λ v. paid_together tables v ≡ sum) (λ v e. e ∙ sym none) leaves zero, none),
         λ both. All-weaker (λ v. paid_together tables v ≡ sum) (λ v. paid_together tables v ≡ zero_fraction) (λ v e. e ∙ both.1) leaves both.0,
       );
       running_unit = λ nodes zero. unit-of_zero _ _ zero;

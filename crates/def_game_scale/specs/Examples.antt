@@ -13,7 +13,10 @@ pub record Example : Type 0 where
 
 -- by the probabilities of the chance sets, the payoffs of the outcomes and the nodes
 abbrev pub example : List (List Fraction) → List PayoffPair → List Node → Example
-example chance outcomes nodes = record { tables = record { chance = chance; outcomes = outcomes }; tree = forest_of nodes }
+example chance outcomes nodes = record {
+  tables = record { chance = chance; outcomes = outcomes };
+  tree = forest_of nodes;
+}
 
 abbrev pub pays : Fraction → Fraction → PayoffPair
 pays one two = record { one = one; two = two }
@@ -49,14 +52,16 @@ running_sum_in_one_set = example
 -- a running sum past the limit in the second set after a wrong sum in the first
 abbrev pub sum_before_later_running_sum : Example
 sum_before_later_running_sum = example
-    ((over (pos 1) 2 ∷ over (pos 1) 3 ∷ []) ∷ (over (pos 1) 4611686018427387904 ∷ over (pos 1) 4611686018427387903 ∷ []) ∷ [])
+    ((over (pos 1) 2 ∷ over (pos 1) 3 ∷ []) ∷ (over (pos 1) 4611686018427387904 ∷ over (pos 1) 4611686018427387903 ∷ [])
+    ∷ [])
     []
     (by_chance 1 2 0 ∷ by_chance 2 2 0 ∷ leaf_node 0 ∷ leaf_node 0 ∷ leaf_node 0 ∷ [])
 
 -- a wrong sum in the second set after a running sum past the limit in the first
 abbrev pub running_sum_before_later_sum : Example
 running_sum_before_later_sum = example
-    ((over (pos 1) 4611686018427387904 ∷ over (pos 1) 4611686018427387903 ∷ []) ∷ (over (pos 1) 2 ∷ over (pos 1) 3 ∷ []) ∷ [])
+    ((over (pos 1) 4611686018427387904 ∷ over (pos 1) 4611686018427387903 ∷ []) ∷ (over (pos 1) 2 ∷ over (pos 1) 3 ∷ [])
+    ∷ [])
     []
     (by_chance 1 2 0 ∷ by_chance 2 2 0 ∷ leaf_node 0 ∷ leaf_node 0 ∷ leaf_node 0 ∷ [])
 
@@ -84,7 +89,8 @@ biased_coin = example
 -- a reach past the limit at an inner node
 abbrev pub rare_deals : Example
 rare_deals = example
-    ((over (pos 1) 1099511627776 ∷ over (pos 1099511627775) 1099511627776 ∷ []) ∷ (over (pos 1) 1099511627776 ∷ over (pos 1099511627775) 1099511627776 ∷ []) ∷ [])
+    ((over (pos 1) 1099511627776 ∷ over (pos 1099511627775) 1099511627776 ∷ [])
+    ∷ (over (pos 1) 1099511627776 ∷ over (pos 1099511627775) 1099511627776 ∷ []) ∷ [])
     (pays (whole_number (pos 1)) (whole_number (pos 1)) ∷ [])
     (by_chance 1 2 0 ∷ by_chance 2 2 0 ∷ by_one 1 1 0 ∷ leaf_node 1 ∷ leaf_node 0 ∷ leaf_node 0 ∷ [])
 
@@ -92,28 +98,33 @@ rare_deals = example
 abbrev pub gain_past_limit : Example
 gain_past_limit = example
     []
-    (pays (whole_number (pos 4611686018427387904)) (whole_number (negsuc 4611686018427387903)) ∷ pays (whole_number (pos 1)) (whole_number (negsuc 0)) ∷ pays (whole_number (negsuc 0)) (whole_number (pos 1)) ∷ [])
+    (pays (whole_number (pos 4611686018427387904)) (whole_number (negsuc 4611686018427387903))
+    ∷ pays (whole_number (pos 1)) (whole_number (negsuc 0)) ∷ pays (whole_number (negsuc 0)) (whole_number (pos 1))
+    ∷ [])
     (by_one 1 1 1 ∷ by_two 1 1 2 ∷ leaf_node 3 ∷ [])
 
 -- player two's path payoff past the limit at an inner node
 abbrev pub loss_past_limit : Example
 loss_past_limit = example
     []
-    (pays (whole_number (pos 0)) (whole_number (pos 4611686018427387904)) ∷ pays (whole_number (pos 0)) (whole_number (pos 1)) ∷ pays (whole_number (pos 1)) (whole_number (pos 1)) ∷ [])
+    (pays (whole_number (pos 0)) (whole_number (pos 4611686018427387904))
+    ∷ pays (whole_number (pos 0)) (whole_number (pos 1)) ∷ pays (whole_number (pos 1)) (whole_number (pos 1)) ∷ [])
     (by_one 1 1 1 ∷ by_two 1 1 2 ∷ leaf_node 3 ∷ [])
 
 -- player one's path payoff before player two's
 abbrev pub gain_and_loss_past_limit : Example
 gain_and_loss_past_limit = example
     []
-    (pays (whole_number (pos 4611686018427387904)) (whole_number (negsuc 4611686018427387903)) ∷ pays (whole_number (pos 1)) (whole_number (negsuc 0)) ∷ [])
+    (pays (whole_number (pos 4611686018427387904)) (whole_number (negsuc 4611686018427387903))
+    ∷ pays (whole_number (pos 1)) (whole_number (negsuc 0)) ∷ [])
     (by_one 1 1 1 ∷ leaf_node 2 ∷ [])
 
 -- a path payoff past the limit at a leaf of another sum
 abbrev pub gain_past_limit_at_leaf : Example
 gain_past_limit_at_leaf = example
     []
-    (pays (whole_number (pos 4611686018427387904)) (whole_number (negsuc 4611686018427387903)) ∷ pays (whole_number (pos 1)) (whole_number (pos 0)) ∷ [])
+    (pays (whole_number (pos 4611686018427387904)) (whole_number (negsuc 4611686018427387903))
+    ∷ pays (whole_number (pos 1)) (whole_number (pos 0)) ∷ [])
     (by_one 1 2 0 ∷ leaf_node 0 ∷ by_one 2 1 1 ∷ leaf_node 2 ∷ [])
 
 -- another sum before reach times payoff past the limit
@@ -134,35 +145,42 @@ fraction_past_limit = example
 abbrev pub unit_past_limit : Example
 unit_past_limit = example
     []
-    (pays (over (pos 1) 4294967296) (over (negsuc 0) 4294967296) ∷ pays (over (pos 1) 4294967295) (over (negsuc 0) 4294967295) ∷ pays (whole_number (pos 1)) (whole_number (pos 1)) ∷ [])
+    (pays (over (pos 1) 4294967296) (over (negsuc 0) 4294967296)
+    ∷ pays (over (pos 1) 4294967295) (over (negsuc 0) 4294967295)
+    ∷ pays (whole_number (pos 1)) (whole_number (pos 1)) ∷ [])
     (by_one 1 3 0 ∷ leaf_node 1 ∷ leaf_node 2 ∷ leaf_node 3 ∷ [])
 
 -- a later leaf of another sum before a mass past the limit
 abbrev pub heavy_of_another_sum : Example
 heavy_of_another_sum = example
     []
-    (pays (whole_number (pos 4611686018427387904)) (whole_number (negsuc 4611686018427387903)) ∷ pays (whole_number (pos 1)) (whole_number (negsuc 0)) ∷ pays (whole_number (pos 1)) (whole_number (pos 1)) ∷ [])
+    (pays (whole_number (pos 4611686018427387904)) (whole_number (negsuc 4611686018427387903))
+    ∷ pays (whole_number (pos 1)) (whole_number (negsuc 0)) ∷ pays (whole_number (pos 1)) (whole_number (pos 1))
+    ∷ [])
     (by_one 1 3 0 ∷ leaf_node 1 ∷ leaf_node 2 ∷ leaf_node 3 ∷ [])
 
 -- a mass of exactly the limit
 abbrev pub mass_at_limit : Example
 mass_at_limit = example
     []
-    (pays (whole_number (pos 4611686018427387903)) (whole_number (negsuc 4611686018427387902)) ∷ pays (whole_number (negsuc 0)) (whole_number (pos 1)) ∷ [])
+    (pays (whole_number (pos 4611686018427387903)) (whole_number (negsuc 4611686018427387902))
+    ∷ pays (whole_number (negsuc 0)) (whole_number (pos 1)) ∷ [])
     (by_one 1 2 0 ∷ leaf_node 1 ∷ leaf_node 2 ∷ [])
 
 -- a mass past the limit by one
 abbrev pub mass_by_one : Example
 mass_by_one = example
     []
-    (pays (whole_number (pos 4611686018427387904)) (whole_number (negsuc 4611686018427387903)) ∷ pays (whole_number (negsuc 0)) (whole_number (pos 1)) ∷ [])
+    (pays (whole_number (pos 4611686018427387904)) (whole_number (negsuc 4611686018427387903))
+    ∷ pays (whole_number (negsuc 0)) (whole_number (pos 1)) ∷ [])
     (by_one 1 2 0 ∷ leaf_node 1 ∷ leaf_node 2 ∷ [])
 
 -- a mass past the limit at the first leaf, by the unit of the last
 abbrev pub mass_by_last_unit : Example
 mass_by_last_unit = example
     []
-    (pays (whole_number (pos 2305843009213693953)) (whole_number (negsuc 2305843009213693952)) ∷ pays (whole_number (pos 1)) (whole_number (negsuc 0)) ∷ pays (over (pos 1) 2) (over (negsuc 0) 2) ∷ [])
+    (pays (whole_number (pos 2305843009213693953)) (whole_number (negsuc 2305843009213693952))
+    ∷ pays (whole_number (pos 1)) (whole_number (negsuc 0)) ∷ pays (over (pos 1) 2) (over (negsuc 0) 2) ∷ [])
     (by_one 1 3 0 ∷ leaf_node 1 ∷ leaf_node 2 ∷ leaf_node 3 ∷ [])
 
 -- a leaf of another sum before a lack of recall
@@ -176,7 +194,8 @@ forgetful_of_another_sum = example
 abbrev pub forgetful_heavy : Example
 forgetful_heavy = example
     []
-    (pays (whole_number (pos 4611686018427387904)) (whole_number (negsuc 4611686018427387903)) ∷ pays (whole_number (pos 1)) (whole_number (negsuc 0)) ∷ [])
+    (pays (whole_number (pos 4611686018427387904)) (whole_number (negsuc 4611686018427387903))
+    ∷ pays (whole_number (pos 1)) (whole_number (negsuc 0)) ∷ [])
     (by_one 1 2 0 ∷ by_one 1 2 0 ∷ leaf_node 1 ∷ leaf_node 2 ∷ leaf_node 0 ∷ [])
 
 -- a lack of recall of player two at a set that follows two actions
@@ -219,7 +238,8 @@ abbrev pub first_in_set : Example
 first_in_set = example
     ((whole_number (pos 1) ∷ []) ∷ [])
     []
-    (by_one 1 3 0 ∷ by_one 2 1 0 ∷ leaf_node 0 ∷ by_one 3 1 0 ∷ leaf_node 0 ∷ by_chance 1 1 0 ∷ by_one 3 1 0 ∷ leaf_node 0 ∷ [])
+    (by_one 1 3 0 ∷ by_one 2 1 0 ∷ leaf_node 0 ∷ by_one 3 1 0 ∷ leaf_node 0 ∷ by_chance 1 1 0 ∷ by_one 3 1 0
+    ∷ leaf_node 0 ∷ [])
 
 -- a negative chance of the second action
 abbrev pub negative_at_second : Example
@@ -239,7 +259,8 @@ negative_below_choice = example
 abbrev pub product_past_limit : Example
 product_past_limit = example
     ((over (pos 3) 4 ∷ over (pos 1) 4 ∷ []) ∷ [])
-    (pays (whole_number (pos 4611686018427387903)) (whole_number (negsuc 4611686018427387902)) ∷ pays (whole_number (pos 1)) (whole_number (pos 1)) ∷ [])
+    (pays (whole_number (pos 4611686018427387903)) (whole_number (negsuc 4611686018427387902))
+    ∷ pays (whole_number (pos 1)) (whole_number (pos 1)) ∷ [])
     (by_chance 1 2 0 ∷ leaf_node 1 ∷ leaf_node 2 ∷ [])
 
 -- a unit of exactly the limit
@@ -253,7 +274,8 @@ unit_at_limit = example
 abbrev pub same_sum_at_leaves : Example
 same_sum_at_leaves = example
     []
-    (pays (whole_number (pos 1)) (whole_number (pos 1)) ∷ pays (whole_number (pos 0)) (whole_number (negsuc 0)) ∷ pays (whole_number (pos 1)) (whole_number (negsuc 1)) ∷ [])
+    (pays (whole_number (pos 1)) (whole_number (pos 1)) ∷ pays (whole_number (pos 0)) (whole_number (negsuc 0))
+    ∷ pays (whole_number (pos 1)) (whole_number (negsuc 1)) ∷ [])
     (by_one 1 2 1 ∷ leaf_node 2 ∷ leaf_node 3 ∷ [])
 
 -- probabilities that add up to more than 1
@@ -281,14 +303,16 @@ later_sum_past_limit = example
 abbrev pub inner_sum_past_limit : Example
 inner_sum_past_limit = example
     []
-    (pays (whole_number (pos 4611686018427387904)) (whole_number (pos 1)) ∷ pays (whole_number (negsuc 0)) (whole_number (pos 0)) ∷ [])
+    (pays (whole_number (pos 4611686018427387904)) (whole_number (pos 1))
+    ∷ pays (whole_number (negsuc 0)) (whole_number (pos 0)) ∷ [])
     (by_one 1 1 1 ∷ leaf_node 2 ∷ [])
 
 -- another sum before a running unit past the limit
 abbrev pub unit_of_another_sum : Example
 unit_of_another_sum = example
     []
-    (pays (over (pos 1) 4294967296) (over (negsuc 0) 4294967296) ∷ pays (over (pos 1) 4294967295) (whole_number (pos 0)) ∷ [])
+    (pays (over (pos 1) 4294967296) (over (negsuc 0) 4294967296) ∷ pays (over (pos 1) 4294967295) (whole_number (pos 0))
+    ∷ [])
     (by_one 1 2 0 ∷ leaf_node 1 ∷ leaf_node 2 ∷ [])
 
 -- the sums 1, 0 and 0: the first leaf decides
@@ -330,7 +354,8 @@ whole_sum_past_limit = example
 abbrev pub whole_sum_before_mass : Example
 whole_sum_before_mass = example
     ((over (pos 1) 2 ∷ over (pos 1) 2 ∷ []) ∷ [])
-    (pays (whole_number (pos 1)) (whole_number (pos 4611686018427387903)) ∷ pays (whole_number (pos 4611686018427387904)) (whole_number (pos 0)) ∷ [])
+    (pays (whole_number (pos 1)) (whole_number (pos 4611686018427387903))
+    ∷ pays (whole_number (pos 4611686018427387904)) (whole_number (pos 0)) ∷ [])
     (by_chance 1 2 0 ∷ leaf_node 1 ∷ leaf_node 2 ∷ [])
 
 -- a pot of 7
@@ -379,7 +404,8 @@ sum_at_limit = example
 abbrev pub whole_sum_at_limit : Example
 whole_sum_at_limit = example
     ((over (pos 1) 2 ∷ over (pos 1) 2 ∷ []) ∷ [])
-    (pays (whole_number (pos 1)) (whole_number (negsuc 2305843009213693952)) ∷ pays (whole_number (pos 3)) (whole_number (negsuc 2305843009213693954)) ∷ [])
+    (pays (whole_number (pos 1)) (whole_number (negsuc 2305843009213693952))
+    ∷ pays (whole_number (pos 3)) (whole_number (negsuc 2305843009213693954)) ∷ [])
     (by_chance 1 2 0 ∷ leaf_node 1 ∷ leaf_node 2 ∷ [])
 
 -- a sum of halves within the limit in its unit, its numerator times the unit past it

@@ -8,7 +8,8 @@ use Rattle.def_game_paths.specs.Rows.{absent_driver}
 use Rattle.def_game_scale.specs.Tables.{PayoffPair, Tables, game_sum}
 use Rattle.def_game_scale.specs.Rows.{inner, inner_tables, tosses, toss_tables}
 use Rattle.def_game_scale.specs.Scale.{game_mass, game_unit, weights}
-use Rattle.def_game_scale.specs.Faults.{GameFault, ChanceNegative, ChanceSum, NotConstantSum, NotRecall, Scale, game_fault}
+use Rattle.def_game_scale.specs.Faults.{GameFault, ChanceNegative, ChanceSum, NotConstantSum, NotRecall, Scale}
+use Rattle.def_game_scale.specs.Faults.{game_fault}
 use Rattle.def_game_scale.specs.Examples as examples
 use Rattle.def_game_scale.specs.Examples.{Example}
 
@@ -17,10 +18,15 @@ pays_whole one two = examples.pays (whole_number one) (whole_number two)
 
 -- chance, and a choice whose payoffs add up to 0 beside a leaf where they don't
 abbrev sum_game : Forest
-sum_game = forest_of (node_of_numbers Chance 1 0 2 ∷ node_of_numbers One 1 0 2 ∷ node_of_numbers Leaf 0 1 0 ∷ node_of_numbers Leaf 0 2 0 ∷ node_of_numbers Leaf 0 3 0 ∷ [])
+sum_game = forest_of (node_of_numbers Chance 1 0 2 ∷ node_of_numbers One 1 0 2 ∷ node_of_numbers Leaf 0 1 0
+    ∷ node_of_numbers Leaf 0 2 0 ∷ node_of_numbers Leaf 0 3 0 ∷ [])
 
 abbrev sum_tables : Fraction → Fraction → Tables
-sum_tables p q = record { chance = (p ∷ q ∷ []) ∷ []; outcomes = pays_whole (pos 4) (negsuc 3) ∷ pays_whole (pos 0) (pos 0) ∷ pays_whole (pos 10) (pos 2) ∷ [] }
+sum_tables p q = record {
+  chance = (p ∷ q ∷ []) ∷ [];
+  outcomes = pays_whole (pos 4) (negsuc 3)
+      ∷ pays_whole (pos 0) (pos 0) ∷ pays_whole (pos 10) (pos 2) ∷ [];
+}
 
 -- three draws of this probability each
 abbrev three_chances : Fraction → Tables
@@ -28,16 +34,25 @@ three_chances p = record { chance = (p ∷ p ∷ p ∷ []) ∷ []; outcomes = []
 
 -- chance below chance, with a probability whose square is too small
 abbrev rare : Forest
-rare = forest_of (node_of_numbers Chance 1 0 2 ∷ node_of_numbers Chance 1 0 2 ∷ node_of_numbers Leaf 0 0 0 ∷ node_of_numbers Leaf 0 0 0 ∷ node_of_numbers Leaf 0 0 0 ∷ [])
+rare = forest_of (node_of_numbers Chance 1 0 2 ∷ node_of_numbers Chance 1 0 2 ∷ node_of_numbers Leaf 0 0 0
+    ∷ node_of_numbers Leaf 0 0 0 ∷ node_of_numbers Leaf 0 0 0 ∷ [])
 
 pub record GameFaultRows : Type 0 where
   pub sum : game_fault (sum_tables (over (pos 1) 2) (over (pos 1) 2)) sum_game ≡ Some (NotConstantSum 5)
   pub negative : game_fault (sum_tables (over (negsuc 0) 2) (over (pos 3) 2)) sum_game
       ≡ Some (ChanceNegative 1)
-  pub decimals : game_fault (three_chances (over (pos 333333) 1000000)) (forest_of examples.draw_of_three) ≡ Some (ChanceSum 1)
+  pub decimals : game_fault (three_chances (over (pos 333333) 1000000)) (forest_of examples.draw_of_three)
+      ≡ Some (ChanceSum 1)
   pub exact : game_fault (three_chances (over (pos 1) 3)) (forest_of examples.draw_of_three) ≡ None
-  pub rare : game_fault (record { chance = (over (pos 1) 4294967296 ∷ over (pos 4294967295) 4294967296 ∷ []) ∷ []; outcomes = [] }) rare ≡ Some (Scale 3)
-  pub absent : game_fault (record { chance = []; outcomes = pays_whole (pos 4) (negsuc 3) ∷ pays_whole (pos 1) (negsuc 0) ∷ [] }) absent_driver ≡ Some (NotRecall 3 1)
+  pub rare : game_fault (record {
+    chance = (over (pos 1) 4294967296 ∷ over (pos 4294967295) 4294967296 ∷ []) ∷ [];
+    outcomes = [];
+  }) rare ≡ Some (Scale 3)
+  pub absent : game_fault (record {
+    chance = [];
+    outcomes = pays_whole (pos 4) (negsuc 3)
+        ∷ pays_whole (pos 1) (negsuc 0) ∷ [];
+  }) absent_driver ≡ Some (NotRecall 3 1)
   pub tosses : game_fault toss_tables tosses ≡ None
   pub inner : game_fault inner_tables inner ≡ None
 
@@ -94,17 +109,23 @@ pub record GivesNumbers (game : Example) (sum : Fraction) (unit : ℕ) (leaf_wei
 pub record FaultlessRows : Type 0 where
   pub thirds_of_one : GivesNumbers examples.thirds_of_one zero_fraction 1 (pos 0 ∷ pos 0 ∷ pos 0 ∷ []) 0
   pub biased_coin : GivesNumbers examples.biased_coin zero_fraction 3 (pos 1 ∷ pos 6 ∷ []) 7
-  pub mass_at_limit : GivesNumbers examples.mass_at_limit zero_fraction 1 (pos 4611686018427387903 ∷ negsuc 0 ∷ []) 4611686018427387904
-  pub coin_before_choice : GivesNumbers examples.coin_before_choice zero_fraction 1 (pos 0 ∷ pos 0 ∷ pos 0 ∷ pos 0 ∷ []) 0
-  pub other_before_choice : GivesNumbers examples.other_before_choice zero_fraction 1 (pos 0 ∷ pos 0 ∷ pos 0 ∷ pos 0 ∷ []) 0
+  pub mass_at_limit : GivesNumbers examples.mass_at_limit zero_fraction 1 (pos 4611686018427387903 ∷ negsuc 0 ∷ [])
+      4611686018427387904
+  pub coin_before_choice : GivesNumbers examples.coin_before_choice zero_fraction 1 (pos 0 ∷ pos 0 ∷ pos 0 ∷ pos 0 ∷ [])
+      0
+  pub other_before_choice : GivesNumbers examples.other_before_choice zero_fraction 1
+      (pos 0 ∷ pos 0 ∷ pos 0 ∷ pos 0 ∷ []) 0
   pub unit_at_limit : GivesNumbers examples.unit_at_limit zero_fraction 4611686018427387904 (pos 1 ∷ pos 0 ∷ []) 1
   pub same_sum_at_leaves : GivesNumbers examples.same_sum_at_leaves (whole_number (pos 1)) 1 (pos 1 ∷ pos 2 ∷ []) 3
-  pub inner_sum_past_limit : GivesNumbers examples.inner_sum_past_limit (whole_number (pos 4611686018427387904)) 1 (pos 4611686018427387903 ∷ []) 4611686018427387903
+  pub inner_sum_past_limit : GivesNumbers examples.inner_sum_past_limit (whole_number (pos 4611686018427387904)) 1
+      (pos 4611686018427387903 ∷ []) 4611686018427387903
   pub pot_of_seven : GivesNumbers examples.pot_of_seven (whole_number (pos 7)) 1 (pos 3 ∷ []) 3
   pub third_for_two : GivesNumbers examples.third_for_two (over (pos 1) 3) 3 (pos 0 ∷ []) 0
   pub fifth_together : GivesNumbers examples.fifth_together (over (pos 1) 5) 30 (pos 15 ∷ pos 10 ∷ []) 25
   pub thirds_under_halves : GivesNumbers examples.thirds_under_halves (over (pos 1) 3) 3 (pos 0 ∷ pos 3 ∷ []) 3
   pub first_leaf_unreached : GivesNumbers examples.first_leaf_unreached (whole_number (pos 2)) 1 (pos 0 ∷ pos 5 ∷ []) 5
   pub sum_at_limit : GivesNumbers examples.sum_at_limit (whole_number (pos 4611686018427387904)) 1 (pos 0 ∷ []) 0
-  pub whole_sum_at_limit : GivesNumbers examples.whole_sum_at_limit (whole_number (negsuc 2305843009213693951)) 2 (pos 1 ∷ pos 3 ∷ []) 4
-  pub halves_within_limit : GivesNumbers examples.halves_within_limit (over (pos 4611686018427387903) 2) 2 (pos 0 ∷ []) 0
+  pub whole_sum_at_limit : GivesNumbers examples.whole_sum_at_limit (whole_number (negsuc 2305843009213693951)) 2
+      (pos 1 ∷ pos 3 ∷ []) 4
+  pub halves_within_limit : GivesNumbers examples.halves_within_limit (over (pos 4611686018427387903) 2) 2 (pos 0 ∷ [])
+      0

@@ -6,7 +6,8 @@
 -- The walks: the signs of probabilities; their sums; reach, payoffs, what a leaf pays both players together, and the
 -- unit; that sum in the unit; the mass; recall.
 -- Nodes are numbered from 1.
-use Rattle.std.specs.Prelude.{ℕ, ◌+◌, Bool, true, false, not, ◌&&◌, nat_eq, nat_le, nat_lt, if◌then◌else◌, List, [], ◌∷◌, ◌++◌, length, Option, Some, None, ℤ, pos, negsuc, unsigned_abs}
+use Rattle.std.specs.Prelude.{ℕ, ◌+◌, Bool, true, false, not, ◌&&◌, nat_eq, nat_le, nat_lt, if◌then◌else◌, List, []}
+use Rattle.std.specs.Prelude.{◌∷◌, ◌++◌, length, Option, Some, None, ℤ, pos, negsuc, unsigned_abs}
 use Rattle.std.specs.Ordering.{int_eq}
 use Rattle.std.specs.List.{list_any}
 use Rattle.def_tree.specs.declared.Kind.TheVariants.{Chance}
@@ -68,22 +69,26 @@ is_same f g = int_eq f.num g.num && nat_eq f.den g.den
 
 -- a probability is below 0
 abbrev pub sign_fault : Tables → NodeTest
-sign_fault tables before node = passing (not (is_chance node && list_any is_negative (probabilities tables node.node.set))) (ChanceNegative (number_after before)) None
+sign_fault tables before node = passing (not (is_chance node
+    && list_any is_negative (probabilities tables node.node.set))) (ChanceNegative (number_after before)) None
 
 -- the probabilities, added in order, pass the limit or don't come to 1
 abbrev pub adding_fault : ℕ → Fraction → List Fraction → Option GameFault
 adding_fault number running [] = passing (is_one running) (ChanceSum number) None
-adding_fault number running (p ∷ rest) = passing (fits (sum_of running p)) (Scale number) (adding_fault number (sum_of running p) rest)
+adding_fault number running (p ∷ rest) = passing (fits (sum_of running p)) (Scale number)
+    (adding_fault number (sum_of running p) rest)
 
 abbrev pub sum_fault : Tables → NodeTest
-sum_fault tables before node = if is_chance node then adding_fault (number_after before) zero_fraction (probabilities tables node.node.set) else None
+sum_fault tables before node = if is_chance node then adding_fault (number_after before) zero_fraction
+    (probabilities tables node.node.set) else None
 
 -- at a leaf: the sum of its payoffs passes the limit, or isn't that of the first leaf, or what it is expected to pay
 -- passes the limit, or the unit of the leaves so far does
 abbrev pub leaf_fault : Tables → NodeTest
 leaf_fault tables before node =
     passing (fits (paid_together tables node)) (Scale (number_after before))
-    (passing (is_same (paid_together tables node) (sum_so_far tables (before ++ (node ∷ [])))) (NotConstantSum (number_after before))
+    (passing (is_same (paid_together tables node) (sum_so_far tables (before ++ (node ∷ []))))
+    (NotConstantSum (number_after before))
     (passing (fits (expected tables node)) (Scale (number_after before))
     (passing (nat_le (unit_so_far tables (before ++ (node ∷ []))) most) (Scale (number_after before)) None)))
 
@@ -101,7 +106,8 @@ whole_sum_fault size before node = passing (not (is_leaf node && nat_lt most siz
 
 -- at each leaf: the mass of the leaves so far passes the limit
 abbrev pub mass_fault : Tables → ℕ → NodeTest
-mass_fault tables unit before node = passing (not (is_leaf node && nat_lt most (mass_so_far tables unit (before ++ (node ∷ []))))) (Scale (number_after before)) None
+mass_fault tables unit before node = passing (not (is_leaf node
+    && nat_lt most (mass_so_far tables unit (before ++ (node ∷ []))))) (Scale (number_after before)) None
 
 -- the first fault of the numbers
 abbrev pub number_fault : Tables → Forest → Option GameFault

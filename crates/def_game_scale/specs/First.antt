@@ -3,7 +3,8 @@
 --     PassNumbers tables tree                 each node passes each walk over the numbers
 --     FirstNumberFault, FirstGameFault        the fault is the first one of the numbers, or with recall
 -- `Passes` and `Fails` say of a node, behind those before it, that it passes a walk, and that it fails with a fault.
-use Rattle.std.specs.Prelude.{◌≡◌, ◌≢◌, ℕ, ◌-◌, ◌<◌, ◌≤◌, true, false, pos, ◌<ℤ◌, ◌≤ℤ◌, unsigned_abs, List, [], ◌∷◌, ◌++◌, length, take, slice_index_or, All, Any}
+use Rattle.std.specs.Prelude.{◌≡◌, ◌≢◌, ℕ, ◌-◌, ◌<◌, ◌≤◌, true, false, pos, ◌<ℤ◌, ◌≤ℤ◌, unsigned_abs, List, [], ◌∷◌}
+use Rattle.std.specs.Prelude.{◌++◌, length, take, slice_index_or, All, Any}
 use Rattle.def_tree.specs.declared.Kind.TheVariants.{Chance}
 use Rattle.def_tree.specs.Tree.{Forest}
 use Rattle.def_fraction.specs.Fraction.{Fraction, fits, most, sum_of, zero_fraction}
@@ -11,11 +12,13 @@ use Rattle.def_game_paths.specs.Paths.{Visit, visits, is_leaf}
 use Rattle.def_game_paths.specs.Recall.{IsFirstBreak}
 use Rattle.def_game_scale.specs.Tables.{Tables, certain, paid_together, payoff_one, payoff_two, probabilities, reach}
 use Rattle.def_game_scale.specs.Scale.{expected, game_unit, mass_so_far, sum_so_far, unit_so_far, whole_sum}
-use Rattle.def_game_scale.specs.Faults.{GameFault, ChanceNegative, ChanceSum, NotConstantSum, NotRecall, Scale, number_after}
+use Rattle.def_game_scale.specs.Faults.{GameFault, ChanceNegative, ChanceSum, NotConstantSum, NotRecall, Scale}
+use Rattle.def_game_scale.specs.Faults.{number_after}
 
 -- each of the nodes passes, behind those before it
 abbrev pub EachPasses : (List Visit → Visit → Type 0) → List Visit → Type 0
-EachPasses Passes nodes = (before : List Visit) (node : Visit) (after : List Visit) → nodes ≡ before ++ (node ∷ after) → Passes before node
+EachPasses Passes nodes = (before : List Visit) (node : Visit) (after : List Visit) → nodes ≡ before ++ (node ∷ after)
+    → Passes before node
 
 pub record FailsFirst (Passes : List Visit → Visit → Type 0) (Fails : List Visit → Visit → GameFault → Type 0)
     (nodes : List Visit) (fault : GameFault) : Type 0 where
@@ -58,7 +61,8 @@ abbrev pub AddUpToOne : List Fraction → Type 0
 AddUpToOne fractions = sum_from zero_fraction fractions ≡ certain
 
 abbrev pub SumsPass : Tables → List Visit → Visit → Type 0
-SumsPass tables before node = node.node.kind ≡ Chance → RunningSumsFit (probabilities tables node.node.set) × AddUpToOne (probabilities tables node.node.set)
+SumsPass tables before node = node.node.kind ≡ Chance → RunningSumsFit (probabilities tables node.node.set)
+    × AddUpToOne (probabilities tables node.node.set)
 
 pub data SumsFail (tables : Tables) (before : List Visit) (node : Visit) (fault : GameFault) : Type 0 where
   running_past : OpensChanceSet before node → (n : ℕ) → n ≤ length (probabilities tables node.node.set)
@@ -150,12 +154,14 @@ pub data FirstNumberFault (tables : Tables) (tree : Forest) (fault : GameFault) 
       → FailsFirst (NodePasses tables) (NodeFails tables) (visits tree) fault → FirstNumberFault tables tree fault
   in_whole_sum : EachPasses (SignsPass tables) (visits tree) → EachPasses (SumsPass tables) (visits tree)
       → EachPasses (NodePasses tables) (visits tree)
-      → FailsFirst (WholeSumPasses (unsigned_abs (whole_sum tables tree))) (WholeSumFails (unsigned_abs (whole_sum tables tree))) (visits tree) fault
+      → FailsFirst (WholeSumPasses (unsigned_abs (whole_sum tables tree)))
+      (WholeSumFails (unsigned_abs (whole_sum tables tree))) (visits tree) fault
       → FirstNumberFault tables tree fault
   in_masses : EachPasses (SignsPass tables) (visits tree) → EachPasses (SumsPass tables) (visits tree)
       → EachPasses (NodePasses tables) (visits tree)
       → EachPasses (WholeSumPasses (unsigned_abs (whole_sum tables tree))) (visits tree)
-      → FailsFirst (MassPasses tables (game_unit tables tree)) (MassFails tables (game_unit tables tree)) (visits tree) fault
+      → FailsFirst (MassPasses tables (game_unit tables tree)) (MassFails tables (game_unit tables tree)) (visits tree)
+      fault
       → FirstNumberFault tables tree fault
 
 -- The last walk: recall.
@@ -165,7 +171,8 @@ pub record RecallFails (tree : Forest) (fault : GameFault) : Type 0 where
   pub node : ℕ
   pub earlier : ℕ
   pub breaks : (d : Visit)
-      → IsFirstBreak (λ k. slice_index_or (visits tree) (k - 1) d) (length (visits tree)) (record { node = node; earlier = earlier })
+      → IsFirstBreak (λ k. slice_index_or (visits tree) (k - 1) d) (length (visits tree))
+      (record { node = node; earlier = earlier })
   pub fault_is : fault ≡ NotRecall node earlier
 
 pub data FirstGameFault (tables : Tables) (tree : Forest) (fault : GameFault) : Type 0 where

@@ -1,13 +1,16 @@
 -- What the unit and the weights are.
-use Rattle.std.specs.Prelude.{◌≡◌, ◌↔◌, ℕ, ◌+◌, ◌≤◌, true, false, ℤ, pos, ◌*ℤ◌, unsigned_abs, List, [], ◌∷◌, ◌++◌, map, All, Any}
+use Rattle.std.specs.Prelude.{◌≡◌, ◌↔◌, ℕ, ◌+◌, ◌≤◌, true, false, ℤ, pos, ◌*ℤ◌, unsigned_abs, List, [], ◌∷◌, ◌++◌, map}
+use Rattle.std.specs.Prelude.{All, Any}
 use Rattle.std.specs.List.{AllZip}
 use Prim.Native.Nat.{◌∣◌}
 use Rattle.def_tree.specs.Tree.{Forest, is_leaf_kind}
 use Rattle.def_fraction.specs.Divisors.{lcm}
 use Rattle.def_fraction.specs.Fraction.{Fraction, IsInLowestTerms, product_of, whole_number, zero_fraction}
 use Rattle.def_game_paths.specs.Paths.{Visit, visits, leaf_visits}
-use Rattle.def_game_scale.specs.Tables.{Tables, AreFractions, IsConstantSum, IsZeroSum, game_sum, paid_together, payoff_one, reach}
-use Rattle.def_game_scale.specs.Scale.{all_expected, all_fractions, expected, expected_at, game_mass, game_unit, mass_so_far, sum_so_far, unit_of, unit_so_far, weight_of, weights, whole_sum}
+use Rattle.def_game_scale.specs.Tables.{Tables, AreFractions, IsConstantSum, IsZeroSum, game_sum, paid_together}
+use Rattle.def_game_scale.specs.Tables.{payoff_one, reach}
+use Rattle.def_game_scale.specs.Scale.{all_expected, all_fractions, expected, expected_at, game_mass, game_unit}
+use Rattle.def_game_scale.specs.Scale.{mass_so_far, sum_so_far, unit_of, unit_so_far, weight_of, weights, whole_sum}
 
 -- w is m times the fraction
 abbrev pub IsMultiple : ℕ → Fraction → ℤ → Type 0
@@ -38,7 +41,8 @@ AllAreFractions = (tables : Tables) (tree : Forest) → AreFractions tables
 
 -- a leaf's weight is unit times reach times player one's payoff
 abbrev pub IsWeightOf : Tables → ℕ → Visit → ℤ → Type 0
-IsWeightOf tables unit leaf w = whole_number w ≡ product_of (whole_number (pos unit)) (product_of (reach tables leaf.path) (payoff_one tables leaf))
+IsWeightOf tables unit leaf w = whole_number w ≡ product_of (whole_number (pos unit))
+    (product_of (reach tables leaf.path) (payoff_one tables leaf))
 
 -- in the game's unit each leaf's weight is whole: there are as many weights as leaves, and each is its leaf's
 abbrev pub WeightsAreWhole : Type 0
@@ -63,7 +67,8 @@ pub record NumbersGrowBy (tables : Tables) (unit : ℕ) (before : List Visit) (n
   pub inner_unit : is_leaf_kind node.node.kind ≡ false
       → unit_so_far tables (before ++ (node ∷ [])) ≡ unit_so_far tables before
   pub leaf_mass : is_leaf_kind node.node.kind ≡ true →
-      mass_so_far tables unit (before ++ (node ∷ [])) ≡ mass_so_far tables unit before + unsigned_abs (weight_of unit (expected tables node))
+      mass_so_far tables unit (before ++ (node ∷ [])) ≡ mass_so_far tables unit before
+      + unsigned_abs (weight_of unit (expected tables node))
   pub inner_mass : is_leaf_kind node.node.kind ≡ false
       → mass_so_far tables unit (before ++ (node ∷ [])) ≡ mass_so_far tables unit before
 

@@ -10,7 +10,9 @@ use Rattle.def_game_scale.specs.Scale.{game_mass, game_unit, weights}
 
 -- a choice between two tosses of one coin
 abbrev pub tosses : Forest
-tosses = forest_of (node_of_numbers One 1 0 2 ∷ node_of_numbers Chance 1 0 2 ∷ node_of_numbers Leaf 0 1 0 ∷ node_of_numbers Leaf 0 0 0 ∷ node_of_numbers Chance 1 0 2 ∷ node_of_numbers Leaf 0 0 0 ∷ node_of_numbers Leaf 0 2 0 ∷ [])
+tosses = forest_of (node_of_numbers One 1 0 2 ∷ node_of_numbers Chance 1 0 2 ∷ node_of_numbers Leaf 0 1 0
+    ∷ node_of_numbers Leaf 0 0 0 ∷ node_of_numbers Chance 1 0 2 ∷ node_of_numbers Leaf 0 0 0
+    ∷ node_of_numbers Leaf 0 2 0 ∷ [])
 
 abbrev half : ℤ → Fraction
 half n = over n 2
@@ -18,7 +20,8 @@ half n = over n 2
 abbrev pub toss_tables : Tables
 toss_tables = record {
   chance = (half (pos 1) ∷ half (pos 1) ∷ []) ∷ [];
-  outcomes = record { one = whole_number (pos 1); two = whole_number (negsuc 0) } ∷ record { one = whole_number (negsuc 0); two = whole_number (pos 1) } ∷ [];
+  outcomes = record { one = whole_number (pos 1); two = whole_number (negsuc 0) }
+      ∷ record { one = whole_number (negsuc 0); two = whole_number (pos 1) } ∷ [];
 }
 
 -- a choice with a payoff at once, and another at one of its leaves
@@ -26,17 +29,24 @@ abbrev pub inner : Forest
 inner = forest_of (node_of_numbers One 1 1 2 ∷ node_of_numbers Leaf 0 2 0 ∷ node_of_numbers Leaf 0 0 0 ∷ [])
 
 abbrev pub inner_tables : Tables
-inner_tables = record { chance = []; outcomes = record { one = half (pos 1); two = half (negsuc 0) } ∷ record { one = half (pos 1); two = half (negsuc 0) } ∷ [] }
+inner_tables = record {
+  chance = [];
+  outcomes = record { one = half (pos 1); two = half (negsuc 0) }
+      ∷ record { one = half (pos 1); two = half (negsuc 0) } ∷ [];
+}
 
 -- unequal chances, one below another, and payoffs on the way to the leaves
 abbrev pub uneven : Forest
-uneven = forest_of (node_of_numbers Chance 1 1 3 ∷ node_of_numbers Leaf 0 2 0 ∷ node_of_numbers Two 1 3 2 ∷ node_of_numbers Leaf 0 0 0 ∷ node_of_numbers Leaf 0 2 0 ∷ node_of_numbers Chance 2 3 2 ∷ node_of_numbers Leaf 0 0 0 ∷ node_of_numbers Leaf 0 0 0 ∷ [])
+uneven = forest_of (node_of_numbers Chance 1 1 3 ∷ node_of_numbers Leaf 0 2 0 ∷ node_of_numbers Two 1 3 2
+    ∷ node_of_numbers Leaf 0 0 0 ∷ node_of_numbers Leaf 0 2 0 ∷ node_of_numbers Chance 2 3 2
+    ∷ node_of_numbers Leaf 0 0 0 ∷ node_of_numbers Leaf 0 0 0 ∷ [])
 
 abbrev pub uneven_tables : Tables
 uneven_tables = record {
   chance = (over (pos 1) 2 ∷ over (pos 1) 3 ∷ over (pos 1) 6 ∷ []) ∷ (over (pos 1) 4 ∷ over (pos 3) 4 ∷ []) ∷ [];
   outcomes =
-      record { one = half (pos 1); two = over (pos 1) 3 } ∷ record { one = whole_number (pos 2); two = whole_number (negsuc 0) }
+      record { one = half (pos 1); two = over (pos 1) 3 }
+      ∷ record { one = whole_number (pos 2); two = whole_number (negsuc 0) }
       ∷ record { one = whole_number (negsuc 0); two = whole_number (pos 5) } ∷ [];
 }
 

@@ -31,13 +31,15 @@ probability tables set action = slice_index_or (probabilities tables set) (actio
 -- outcome 0 is the null outcome, which gives nobody anything
 abbrev pub payoffs_of : Tables → ℕ → PayoffPair
 payoffs_of tables zero = record { one = zero_fraction; two = zero_fraction }
-payoffs_of tables (suc outcome) = slice_index_or tables.outcomes outcome (record { one = zero_fraction; two = zero_fraction })
+payoffs_of tables (suc outcome) = slice_index_or tables.outcomes outcome
+    (record { one = zero_fraction; two = zero_fraction })
 
 -- the product of the chance probabilities on a path
 abbrev pub reach : Tables → List Move → Fraction
 reach tables [] = certain
 reach tables (step ∷ rest) =
-    if is_same_kind Chance step.node.kind then product_of (reach tables rest) (probability tables step.node.set step.action) else reach tables rest
+    if is_same_kind Chance step.node.kind then product_of (reach tables rest)
+    (probability tables step.node.set step.action) else reach tables rest
 
 -- what a player is paid: the sum over the outcomes on the path, the node's own included
 abbrev pub path_payoff : (PayoffPair → Fraction) → Tables → List Move → Fraction

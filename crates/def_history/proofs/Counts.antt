@@ -109,7 +109,8 @@ pub times_right-range : (of job stripe first count : ℕ)
     ≡ cond (eqb of job) (times stripe (range_with_len first count)) 0
 times_right-range of job stripe first zero = grind (arith, nat_tests)
 times_right-range of job stripe first (suc count) =
-    rw times_right-cons (rw (times_right-range of job stripe (first + 1) count) (rw times-cons (step of job stripe first (times stripe (range_with_len (first + 1) count)))))
+    rw times_right-cons (rw (times_right-range of job stripe (first + 1) count)
+    (rw times-cons (step of job stripe first (times stripe (range_with_len (first + 1) count)))))
   where
     step : (of job stripe first rest : ℕ)
         → cond (eqb of job && eqb first stripe) 1 0 + cond (eqb of job) rest 0

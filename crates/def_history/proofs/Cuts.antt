@@ -69,7 +69,8 @@ module _ (limit : ℕ) where
   AreSingle-cut_each count [] h = tt
   AreSingle-cut_each count (job ∷ rest) h =
       elim (is_cut limit count job) as (λ b. AreSingle (cond b (subtrees job ++ cut_each limit (count_after count job) rest) (job ∷ cut_each limit count rest))) [
-        | true ↦ AreSingle-append (subtrees job) (cut_each limit (count_after count job) rest) (AreSingle-subtrees job) (AreSingle-cut_each (count_after count job) rest h.1)
+        | true ↦ AreSingle-append (subtrees job) (cut_each limit (count_after count job) rest) (AreSingle-subtrees job)
+            (AreSingle-cut_each (count_after count job) rest h.1)
         | false ↦ (h.0, AreSingle-cut_each count rest h.1)
       ]
 
@@ -78,10 +79,12 @@ module _ (limit : ℕ) where
   leaves-cut_each count [] h = refl
   leaves-cut_each count (job ∷ rest) h =
       elim (is_cut limit count job) as (λ b. is_cut limit count job ≡ b →
-      flat_map leaves_in (cond b (subtrees job ++ cut_each limit (count_after count job) rest) (job ∷ cut_each limit count rest)) ≡ leaves_in job ++ flat_map leaves_in rest) [
+      flat_map leaves_in (cond b (subtrees job ++ cut_each limit (count_after count job) rest) (job ∷ cut_each limit count rest)) ≡ leaves_in job
+      ++ flat_map leaves_in rest) [
         | true ↦ λ cut.
             flat_map-append leaves_in (subtrees job) (cut_each limit (count_after count job) rest)
-            ∙ (λ i. leaves-subtrees job h.0 (and_parts (is_chance_job job) (nat_le (count_after count job) limit) cut).0 i ++ leaves-cut_each (count_after count job) rest h.1 i)
+            ∙ (λ i. leaves-subtrees job h.0 (and_parts (is_chance_job job) (nat_le (count_after count job) limit) cut).0 i
+            ++ leaves-cut_each (count_after count job) rest h.1 i)
         | false ↦ λ cut. ap (λ xs. leaves_in job ++ xs) (leaves-cut_each count rest h.1)
       ] refl
 
@@ -95,11 +98,14 @@ module _ (limit : ℕ) where
       → before + length (cut_each limit count jobs) ≤ limit
   length-cut_each [] before count e h = omega arith
   length-cut_each (job ∷ rest) before count e h =
-      elim (is_cut limit count job) as (λ b. is_cut limit count job ≡ b → before + length (cond b (subtrees job ++ cut_each limit (count_after count job) rest) (job ∷ cut_each limit count rest)) ≤ limit) [
+      elim (is_cut limit count job) as (λ b. is_cut limit count job ≡ b → before
+      + length (cond b (subtrees job ++ cut_each limit (count_after count job) rest) (job ∷ cut_each limit count rest)) ≤ limit) [
         | true ↦ λ cut.
             let within : count_after count job ≤ limit = within_if_cut limit count job cut in
-            let many : length (subtrees job ++ cut_each limit (count_after count job) rest) ≡ length (subtrees job) + length (cut_each limit (count_after count job) rest) = length-append (subtrees job) (cut_each limit (count_after count job) rest) in
-            let later : (before + length (subtrees job)) + length (cut_each limit (count_after count job) rest) ≤ limit = length-cut_each rest (before + length (subtrees job)) (count_after count job) (omega arith) within in
+            let many : length (subtrees job ++ cut_each limit (count_after count job) rest) ≡ length (subtrees job)
+            + length (cut_each limit (count_after count job) rest) = length-append (subtrees job) (cut_each limit (count_after count job) rest) in
+            let later : (before + length (subtrees job)) + length (cut_each limit (count_after count job) rest)
+            ≤ limit = length-cut_each rest (before + length (subtrees job)) (count_after count job) (omega arith) within in
             omega arith
         | false ↦ λ cut.
             let later : (before + 1) + length (cut_each limit count rest) ≤ limit = length-cut_each rest (before + 1) count (omega arith) h in
@@ -109,7 +115,8 @@ module _ (limit : ℕ) where
   length-passes : (n : ℕ) (jobs : List Forest) → length jobs ≤ limit → length (passes limit n jobs) ≤ limit
   length-passes zero jobs h = h
   length-passes (suc n) jobs h =
-      length-passes n (pass limit jobs) (let few : 0 + length (cut_each limit (length jobs) jobs) ≤ limit = length-cut_each jobs 0 (length jobs) (omega arith) h in omega arith)
+      length-passes n (pass limit jobs) (let few : 0 + length (cut_each limit (length jobs) jobs)
+      ≤ limit = length-cut_each jobs 0 (length jobs) (omega arith) h in omega arith)
 
   -- jobs that one pass leaves as they are stay so after any number of passes
   pub passes-pass : (jobs : List Forest) (n : ℕ) → pass limit jobs ≡ jobs → passes limit n jobs ≡ jobs

@@ -41,7 +41,8 @@ had_none state pass job (after, drawing) = drawing.takes_job.held_none
 
 was_there : (state : State) (pass job : ℕ) → ((after : State) × Draws state pass job after) → Contains state.bag job
 was_there state pass job (after, drawing) =
-    Contains-permutation (job ∷ after.bag) state.bag job (IsPermutation-sym state.bag (job ∷ after.bag) drawing.takes_job.leaves_bag) (Contains-head job after.bag)
+    Contains-permutation (job ∷ after.bag) state.bag job (IsPermutation-sym state.bag (job ∷ after.bag) drawing.takes_job.leaves_bag)
+    (Contains-head job after.bag)
 
 pub any_pass_without_rights_draws : AnyPassWithoutRightsDraws
 any_pass_without_rights_draws state pass job is_pass = (

@@ -1,5 +1,6 @@
 -- Legal histories, and what a complete one replays to.
-use Rattle.std.proofs.Common.{◌≡◌, ℕ, zero, suc, ◌+◌, ◌*◌, ◌/◌, ◌%◌, ◌<◌, ◌≤◌, Bool, true, false, cond, eqb, ltb, List, [], ◌∷◌, ◌++◌, length, get_or, refl, sym, ap, ◌∙◌, subst, arith, inl, inr}
+use Rattle.std.proofs.Common.{◌≡◌, ℕ, zero, suc, ◌+◌, ◌*◌, ◌/◌, ◌%◌, ◌<◌, ◌≤◌, Bool, true, false, cond, eqb, ltb, List, [], ◌∷◌, ◌++◌, length, get_or, refl}
+use Rattle.std.proofs.Common.{sym, ap, ◌∙◌, subst, arith, inl, inr}
 use Rattle.std.specs.Prelude.{ℤ, ◌+ℤ◌, Contains, All}
 use Rattle.std.proofs.Math.IntN.{+ℤ_assoc, +ℤ_comm}
 use Rattle.std.proofs.lemmas.List.Sums.{sum_by-cons, sum_by-append}
@@ -10,7 +11,8 @@ use Rattle.std.proofs.lemmas.Bool.{cases_lt}
 use Rattle.def_sums.specs.Sum.{sum_over}
 use Rattle.def_history.specs.History.{times, job_numbers, IsLegal, IsComplete, stripe_of, place_of}
 use Rattle.def_history.specs.Core.{State, IsReached, history_of, stripe_count}
-use Rattle.def_history.specs.Laws.{HistoriesAreLegal, BagIsLegal, IsAtEnd, HistoriesEndComplete, CompleteHistoriesReplayToPlainSums, RowsEndAsPlainSums, EachRowHasOnePlace}
+use Rattle.def_history.specs.Laws.{HistoriesAreLegal, BagIsLegal, IsAtEnd, HistoriesEndComplete, CompleteHistoriesReplayToPlainSums, RowsEndAsPlainSums}
+use Rattle.def_history.specs.Laws.{EachRowHasOnePlace}
 use Rattle.def_history.proofs.Counts.{one_if, times-cons, times-self, times-job_numbers, times_from_Contains, Contains_from_times}
 use Rattle.def_history.proofs.StepsKeepBalance.{IsBalanced, reached_balanced, end_holds_none}
 
@@ -34,7 +36,8 @@ legal_at jobs state balanced stripe is_stripe = record { once = once; named = na
 
         no : jobs ≤ get_or (history_of state stripe) k d → ⊥
         no above =
-            let has = times_from_Contains (get_or (history_of state stripe) k d) (history_of state stripe) (Contains-get_or (history_of state stripe) k d below) in
+            let has = times_from_Contains (get_or (history_of state stripe) k d) (history_of state stripe)
+            (Contains-get_or (history_of state stripe) k d below) in
             let none : one_if (ltb (get_or (history_of state stripe) k d) jobs) ≡ 0 = grind (arith, nat_tests) in
             omega (arith, has, none, balanced.balance (get_or (history_of state stripe) k d) stripe is_stripe)
 
@@ -132,7 +135,8 @@ same_sum f (x ∷ xs) ys same = from (same_sum f xs) (split_at x ys (let a = tim
         → (front : List ℕ) × (back : List ℕ) × (ys ≡ front ++ x ∷ back) → f x +ℤ sum_over f xs ≡ sum_over f ys
     from later (front, back, is) =
         let rest : (job : ℕ) → times job xs ≡ times job (front ++ back) =
-        (λ (job : ℕ). let a = times-cons job x xs in let b = same job in let c = times-middle job x front back in let e : times job ys ≡ times job (front ++ x ∷ back) = ap (times job) is in omega (arith, a, b, c, e)) in
+        (λ (job : ℕ). let a = times-cons job x xs in let b = same job in let c = times-middle job x front back in let e : times job ys
+        ≡ times job (front ++ x ∷ back) = ap (times job) is in omega (arith, a, b, c, e)) in
         ap (λ s. f x +ℤ s) (later (front ++ back) rest) ∙ sym (sum_over-middle f x front back) ∙ ap (sum_over f) (sym is)
 
 -- a history with each job once leaves at a row the sum of all jobs' amounts, whatever its order
@@ -150,7 +154,8 @@ replays_to_plain_sum jobs history legal complete amount row = same_sum (λ job. 
         outside : jobs ≤ job → times job history ≡ times job (job_numbers jobs)
         outside above =
             let none : one_if (ltb job jobs) ≡ 0 = grind (arith, nat_tests) in
-            let not_in : times job history ≤ 0 = elim (cases_lt 0 (times job history)) [ inl here ↦ absurd (no (Contains_from_times job history here)) | inr zero' ↦ zero' ] in
+            let not_in : times job history ≤ 0 = elim (cases_lt 0 (times job history))
+            [ inl here ↦ absurd (no (Contains_from_times job history here)) | inr zero' ↦ zero' ] in
             omega (arith, times-job_numbers jobs job, none, not_in)
           where
             no : Contains history job → ⊥
@@ -160,7 +165,8 @@ replays_to_plain_sum jobs history legal complete amount row = same_sum (λ job. 
 pub ends_with_plain_sums : RowsEndAsPlainSums
 ends_with_plain_sums jobs state reached end some amount row =
     let is_stripe : row % stripe_count state < stripe_count state = mod_below row (stripe_count state) some in
-    replays_to_plain_sum jobs (history_of state (stripe_of (stripe_count state) row)) (legal_at jobs state (reached_balanced jobs state reached) (row % stripe_count state) is_stripe)
+    replays_to_plain_sum jobs (history_of state (stripe_of (stripe_count state) row))
+    (legal_at jobs state (reached_balanced jobs state reached) (row % stripe_count state) is_stripe)
     (complete_at jobs state reached end (row % stripe_count state) is_stripe) amount row
 
 -- ---- rows and stripes
@@ -171,5 +177,6 @@ each_row_once stripes row some = record { stripe = mod_below row stripes some; t
     alone : (stripe place : ℕ) → stripe < stripes → place * stripes + stripe ≡ row
         → (stripe ≡ stripe_of stripes row) × (place ≡ place_of stripes row)
     alone stripe place below is =
-        let same = same_from_place place stripe (row / stripes) (row % stripes) stripes below (mod_below row stripes some) (is ∙ sym (div-add-mod' row stripes)) in
+        let same = same_from_place place stripe (row / stripes) (row % stripes) stripes below (mod_below row stripes some)
+        (is ∙ sym (div-add-mod' row stripes)) in
         (same.1, same.0)

@@ -22,7 +22,11 @@ counts_once jobs state reached job stripe is_job is_stripe =
 some_positive : {X : Type 0} (f : X → ℕ) (d : X) (xs : List X) → 1 ≤ sum_by f xs
     → (i : ℕ) × (i < length xs) × (1 ≤ f (get_or xs i d))
 some_positive f d [] h = absurd (omega arith)
-some_positive f d (x ∷ xs) h = elim (cases_lt 0 (f x)) [ inl here ↦ (0, omega arith, here) | inr none ↦ later (some_positive f d xs (omega (arith, sum_by-cons f x xs, h, none))) ]
+some_positive f d (x ∷ xs) h = elim (cases_lt 0 (f x)) [
+  | inl here ↦ (0, omega arith, here)
+  | inr none ↦ later
+      (some_positive f d xs (omega (arith, sum_by-cons f x xs, h, none)))
+]
   where
     later : ((i : ℕ) × (i < length xs) × (1 ≤ f (get_or xs i d)))
         → (i : ℕ) × (i < length (x ∷ xs)) × (1 ≤ f (get_or (x ∷ xs) i d))
@@ -45,7 +49,8 @@ is_pass state pass job stripe h = elim (cases_lt pass (length state.passes)) [ i
   where
     no : length state.passes ≤ pass → ⊥
     no past =
-        let none : times_right job stripe (rights_held state pass) ≡ 0 = ap (λ (rights : List Right). times_right job stripe rights) (get_or_past state.passes pass [] past) in
+        let none : times_right job stripe (rights_held state pass) ≡ 0 = ap (λ (rights : List Right). times_right job stripe rights)
+        (get_or_past state.passes pass [] past) in
         omega (arith, h, none)
 
 held_by_pass : (state : State) (pass job stripe : ℕ) → Holds state (the_pass pass) job stripe
@@ -64,7 +69,11 @@ only_rights jobs state reached pass job stripe holds = (is_job, is_stripe)
     balanced = reached_balanced jobs state reached
 
     is_stripe : stripe < stripe_count state
-    is_stripe = elim (cases_lt stripe (stripe_count state)) [ inl below ↦ below | inr above ↦ absurd (let a = held_by_pass state pass job stripe holds in let b = balanced.no_stripe job stripe above in omega (arith, a, b)) ]
+    is_stripe = elim (cases_lt stripe (stripe_count state)) [
+      | inl below ↦ below
+      | inr above ↦ absurd
+          (let a = held_by_pass state pass job stripe holds in let b = balanced.no_stripe job stripe above in omega (arith, a, b))
+    ]
 
     is_job : job < jobs
     is_job = elim (cases_lt job jobs) [
@@ -133,7 +142,11 @@ gives_up_by_adding jobs state reached job stripe is_job is_stripe = (added, give
         no_bag = elim (cases_lt 0 (times job state.bag)) [ inl here ↦ absurd (nobody the_bag (Contains_from_times job state.bag here)) | inr none ↦ none ]
 
         no_pass : times_held state job stripe ≤ 0
-        no_pass = elim (cases_lt 0 (times_held state job stripe)) [ inl here ↦ absurd (from (some_positive (λ rights. times_right job stripe rights) [] state.passes here)) | inr none ↦ none ]
+        no_pass = elim (cases_lt 0 (times_held state job stripe)) [
+          | inl here ↦ absurd
+              (from (some_positive (λ rights. times_right job stripe rights) [] state.passes here))
+          | inr none ↦ none
+        ]
           where
             from : (i : ℕ) × (i < length state.passes) × (1 ≤ times_right job stripe (get_or state.passes i [])) → ⊥
             from (pass, below, at) = nobody (the_pass pass) (Contains_from_times_right job stripe (rights_held state pass) at)

@@ -1,5 +1,6 @@
 -- The rows that a job's leaves have make its packet.
-use Rattle.std.proofs.Common.{◌≡◌, ◌≢◌, ℕ, zero, suc, ◌+◌, ◌-◌, ◌<◌, ◌≤◌, Bool, true, false, cond, eqb, ltb, ◌||◌, List, [], ◌∷◌, length, map, refl, sym, ap, ◌∙◌, subst, arith}
+use Rattle.std.proofs.Common.{◌≡◌, ◌≢◌, ℕ, zero, suc, ◌+◌, ◌-◌, ◌<◌, ◌≤◌, Bool, true, false, cond, eqb, ltb, ◌||◌, List, [], ◌∷◌, length, map, refl, sym, ap}
+use Rattle.std.proofs.Common.{◌∙◌, subst, arith}
 use Rattle.std.specs.Prelude.{ℤ, pos, ◌+ℤ◌, All, Contains, filter, slice_index_or}
 use Rattle.std.specs.List.{range_with_len}
 use Rattle.std.proofs.lemmas.List.Elements.{All-nil, All-cons}
@@ -27,11 +28,13 @@ all_kept : (P : RowAmount → Type 0) (amount : ℕ → ℤ) (test : ℕ → Boo
     → ((row : ℕ) → from ≤ row → row < from + count → P (record { row = row; amount = amount row }))
     → All P (kept amount test from count)
 all_kept P amount test from zero holds = All-nil P
-all_kept P amount test from (suc count) holds = by_test (test from) refl (all_kept P amount test (from + 1) count (λ row low high. holds row (omega arith) (omega arith)))
+all_kept P amount test from (suc count) holds = by_test (test from) refl (all_kept P amount test (from + 1) count
+    (λ row low high. holds row (omega arith) (omega arith)))
   where
     by_test : (b : Bool) → test from ≡ b → All P (kept amount test (from + 1) count)
         → All P (kept amount test from (suc count))
-    by_test true e later = rw e (All-cons P (record { row = from; amount = amount from }) (kept amount test (from + 1) count) (holds from (omega arith) (omega arith)) later)
+    by_test true e later = rw e (All-cons P (record { row = from; amount = amount from }) (kept amount test (from + 1) count)
+        (holds from (omega arith) (omega arith)) later)
     by_test false e later = rw e later
 
 rising : (amount : ℕ → ℤ) (test : ℕ → Bool) (from count : ℕ) → AreRising (kept amount test from count)
@@ -101,7 +104,8 @@ untouched_amount form numbers_one numbers_two range within row is_row none = by_
   where
     by_test : (b : Bool) → is_touched form (job_leaves form range) row ≡ b
         → job_amount (leaf_amount form numbers_one numbers_two) range row ≡ pos 0
-    by_test true e = absurd (passes_is_kept (λ r. job_amount (leaf_amount form numbers_one numbers_two) range r) (is_touched form (job_leaves form range)) 0 (row_count form) row (omega arith) (omega arith) e none)
+    by_test true e = absurd (passes_is_kept (λ r. job_amount (leaf_amount form numbers_one numbers_two) range r) (is_touched form (job_leaves form range)) 0
+        (row_count form) row (omega arith) (omega arith) e none)
     by_test false e = by_number form numbers_one numbers_two range row within ∙ no_leaf_no_amount form numbers_one numbers_two row (job_leaves form range) e
 
 -- a job's amounts at the rows that its leaves have are its packet
@@ -113,7 +117,8 @@ touched_rows_make_packets form numbers_one numbers_two ranges job within =
     record {
       rising = rising amount test 0 (row_count form);
       are_rows = all_kept (λ x. x.row < row_count form) amount test 0 (row_count form) (λ row low high. omega arith);
-      have_amounts = all_kept (λ x. x.amount ≡ amounts (leaf_amount form numbers_one numbers_two) ranges job x.row) amount test 0 (row_count form) (λ row low high. refl);
+      have_amounts = all_kept (λ x. x.amount ≡ amounts (leaf_amount form numbers_one numbers_two) ranges job x.row) amount test 0 (row_count form)
+          (λ row low high. refl);
       nothing_else = untouched_amount form numbers_one numbers_two range within;
     }
 
@@ -132,7 +137,8 @@ is_touched_by : (form : SequenceForm) (row : ℕ) (leaves : List Leaf) (z : Leaf
     → has_row form z row ≡ true → is_touched form leaves row ≡ true
 is_touched_by form row [] z (k, below, is) has = absurd (omega arith)
 is_touched_by form row (x ∷ leaves) z (zero, below, is) has = let h : has_row form x row ≡ true = ap (λ y. has_row form y row) is ∙ has in rw h refl
-is_touched_by form row (x ∷ leaves) z (suc k, below, is) has = let later = is_touched_by form row leaves z (k, omega arith, is) has in rw later (or-true (has_row form x row))
+is_touched_by form row (x ∷ leaves) z (suc k, below, is) has = let later = is_touched_by form row leaves z (k, omega arith, is) has in rw later
+    (or-true (has_row form x row))
 
 in_range_is : (test : ℕ → Bool) (from count row : ℕ) → Contains (filter test (range_with_len from count)) row
     → (from ≤ row) × (row < from + count) × (test row ≡ true)
@@ -161,14 +167,16 @@ in_range_is test from (suc count) row there = by_test (λ later. widen (in_range
 is_in_range : (test : ℕ → Bool) (from count row : ℕ) → from ≤ row → row < from + count → test row ≡ true
     → Contains (filter test (range_with_len from count)) row
 is_in_range test from zero row low high passes = absurd (omega arith)
-is_in_range test from (suc count) row low high passes = by_place (λ next. is_in_range test (from + 1) count row next (omega arith) passes) (eqb from row) refl (test from) refl
+is_in_range test from (suc count) row low high passes = by_place (λ next. is_in_range test (from + 1) count row next (omega arith) passes) (eqb from row) refl
+    (test from) refl
   where
     by_place : (from + 1 ≤ row → Contains (filter test (range_with_len (from + 1) count)) row) → (here : Bool)
         → eqb from row ≡ here → (b : Bool) → test from ≡ b
         → Contains (filter test (range_with_len from (suc count))) row
     by_place later true h true e =
         let is : from ≡ row = grind (arith, nat_tests) in
-        rw e (subst (λ x. Contains (x ∷ filter test (range_with_len (from + 1) count)) row) (sym is) (Contains-head row (filter test (range_with_len (from + 1) count))))
+        rw e (subst (λ x. Contains (x ∷ filter test (range_with_len (from + 1) count)) row) (sym is)
+        (Contains-head row (filter test (range_with_len (from + 1) count))))
     by_place later true h false e = let is : from ≡ row = grind (arith, nat_tests) in let t : test from ≡ true = ap test is ∙ passes in absurd (cc)
     by_place later false h true e =
         let next : from + 1 ≤ row = grind (arith, nat_tests) in
@@ -179,5 +187,6 @@ is_in_range test from (suc count) row low high passes = by_place (λ next. is_in
 pub touched_rows_are_exact : TouchedRowsAreExact
 touched_rows_are_exact form leaves row = (
   (λ there. let is = in_range_is (is_touched form leaves) 0 (row_count form) row there in (omega (arith, is.1), touched_is form row leaves is.2)),
-  (λ (is_row, (z, there, has)). is_in_range (is_touched form leaves) 0 (row_count form) row (omega arith) (omega arith) (is_touched_by form row leaves z there has)),
+  (λ (is_row, (z, there, has)). is_in_range (is_touched form leaves) 0 (row_count form) row (omega arith) (omega arith)
+      (is_touched_by form row leaves z there has)),
 )

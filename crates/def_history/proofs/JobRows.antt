@@ -21,7 +21,8 @@ pub by_number : (form : SequenceForm) (numbers_one numbers_two : List ℕ) (rang
 by_number form numbers_one numbers_two range row within =
     let long : length (job_leaves form range) ≡ range.count = simp (length-take, length-drop) (omega arith) in
     ap (λ n. sum_over (λ leaf. leaf_amount form numbers_one numbers_two leaf row) (range_with_len range.first n)) (sym long)
-    ∙ sum_over-places (λ z. amount_in_row form numbers_one numbers_two z row) (record { sequence_one = 0; sequence_two = 0; weight = pos 0 }) (job_leaves form range) (λ leaf. leaf_amount form numbers_one numbers_two leaf row) range.first
+    ∙ sum_over-places (λ z. amount_in_row form numbers_one numbers_two z row) (record { sequence_one = 0; sequence_two = 0; weight = pos 0 })
+    (job_leaves form range) (λ leaf. leaf_amount form numbers_one numbers_two leaf row) range.first
     (λ place below. ap (λ z. amount_in_row form numbers_one numbers_two z row) (sym (at_place place (omega (arith, long, below)))))
   where
     at_place : (place : ℕ) → place < range.count
@@ -32,7 +33,8 @@ all_by_number : (form : SequenceForm) (numbers_one numbers_two : List ℕ) (row 
     → sum_over_leaves (leaf_amount form numbers_one numbers_two) (length form.leaves) row
     ≡ sum_over (λ z. amount_in_row form numbers_one numbers_two z row) form.leaves
 all_by_number form numbers_one numbers_two row =
-    sum_over-places (λ z. amount_in_row form numbers_one numbers_two z row) (record { sequence_one = 0; sequence_two = 0; weight = pos 0 }) form.leaves (λ leaf. leaf_amount form numbers_one numbers_two leaf row) 0
+    sum_over-places (λ z. amount_in_row form numbers_one numbers_two z row) (record { sequence_one = 0; sequence_two = 0; weight = pos 0 }) form.leaves
+    (λ leaf. leaf_amount form numbers_one numbers_two leaf row) 0
     (λ place below. ap (λ leaf. leaf_amount form numbers_one numbers_two leaf row) (zero-add place))
 
 -- what all leaves add to a row is the leaf sum of the row's sequence
@@ -46,12 +48,15 @@ rows_sum_over_leaves form numbers_one numbers_two = record {
 pub jobs_have_their_leaf_sums : JobsHaveTheirLeafSums
 jobs_have_their_leaf_sums form numbers_one numbers_two range within = record {
   rows_of_one = λ s below. by_number form numbers_one numbers_two range s within ∙ in_row_of_one form numbers_one numbers_two (job_leaves form range) s below;
-  rows_of_two = λ s. by_number form numbers_one numbers_two range (sequence_count form.sets_one + s) within ∙ in_row_of_two form numbers_one numbers_two (job_leaves form range) s;
+  rows_of_two = λ s. by_number form numbers_one numbers_two range (sequence_count form.sets_one + s) within
+      ∙ in_row_of_two form numbers_one numbers_two (job_leaves form range) s;
 }
 
 -- at the end the history of a row's stripe leaves the leaf sum of the row's sequence
 pub replays_end_as_rows : ReplaysEndAsRows
 replays_end_as_rows form numbers_one numbers_two ranges partitions state reached end some = record {
-  rows_of_one = λ s below. ends_with_leaf_sums (leaf_amount form numbers_one numbers_two) ranges (length form.leaves) partitions state reached end some s ∙ (rows_sum_over_leaves form numbers_one numbers_two).rows_of_one s below;
-  rows_of_two = λ s. ends_with_leaf_sums (leaf_amount form numbers_one numbers_two) ranges (length form.leaves) partitions state reached end some (sequence_count form.sets_one + s) ∙ (rows_sum_over_leaves form numbers_one numbers_two).rows_of_two s;
+  rows_of_one = λ s below. ends_with_leaf_sums (leaf_amount form numbers_one numbers_two) ranges (length form.leaves) partitions state reached end some s
+      ∙ (rows_sum_over_leaves form numbers_one numbers_two).rows_of_one s below;
+  rows_of_two = λ s. ends_with_leaf_sums (leaf_amount form numbers_one numbers_two) ranges (length form.leaves) partitions state reached end some
+      (sequence_count form.sets_one + s) ∙ (rows_sum_over_leaves form numbers_one numbers_two).rows_of_two s;
 }

@@ -21,13 +21,16 @@ pub sum_over-places : {X : Type 0} (f : X → ℤ) (d : X) (xs : List X) (g : �
 sum_over-places f d [] g from same = refl
 sum_over-places f d (x ∷ xs) g from same =
     let here : g from ≡ f x = ap g (sym (add-zero from)) ∙ same 0 (omega arith) in
-    let later : (place : ℕ) → place < length xs → g (from + 1 + place) ≡ f (get_or xs place d) = (λ (place : ℕ) (below : place < length xs). let shift : from + 1 + place ≡ from + suc place = omega arith in ap g shift ∙ same (suc place) (omega arith)) in
+    let later : (place : ℕ) → place < length xs → g (from + 1 + place) ≡ f
+    (get_or xs place d) = (λ (place : ℕ) (below : place < length xs). let shift : from + 1 + place ≡ from + suc place = omega arith in ap g shift
+    ∙ same (suc place) (omega arith)) in
     ap (λ s. s +ℤ sum_over g (range_with_len (from + 1) (length xs))) here ∙ ap (λ s. f x +ℤ s) (sum_over-places f d xs g (from + 1) later)
 
 -- jobs that have every leaf once add to a row what all leaves add to it
 pub jobs_add_up : JobsAddUpToLeaves
 jobs_add_up leaf_amount ranges leaves partitions row =
-    sum_over-places (λ range. job_amount leaf_amount range row) (record { first = 0; count = 0 }) ranges (λ job. amounts leaf_amount ranges job row) 0 (λ place below. ap (λ job. amounts leaf_amount ranges job row) (zero-add place))
+    sum_over-places (λ range. job_amount leaf_amount range row) (record { first = 0; count = 0 }) ranges (λ job. amounts leaf_amount ranges job row) 0
+    (λ place below. ap (λ job. amounts leaf_amount ranges job row) (zero-add place))
     ∙ sym (sum_over-flat_map (λ leaf. leaf_amount leaf row) leaves_of ranges) ∙ ap (sum_over (λ leaf. leaf_amount leaf row)) partitions
 
 -- at the end the history of a row's stripe leaves the plain sum over all leaves at that row

@@ -1,9 +1,11 @@
 -- Local steps, rights by counts, and the size of a legal history's replay.
-use Rattle.std.proofs.Common.{◌≡◌, ℕ, suc, ◌+◌, ◌<◌, ◌≤◌, ◌&&◌, Bool, true, false, cond, eqb, ltb, List, [], ◌∷◌, ◌++◌, get_or, set, refl, sym, ap, ◌∙◌, subst, arith, inl, inr}
+use Rattle.std.proofs.Common.{◌≡◌, ℕ, suc, ◌+◌, ◌<◌, ◌≤◌, ◌&&◌, Bool, true, false, cond, eqb, ltb, List, [], ◌∷◌, ◌++◌, get_or, set, refl, sym, ap, ◌∙◌, subst}
+use Rattle.std.proofs.Common.{arith, inl, inr}
 use Rattle.std.specs.Prelude.{unsigned_abs, IsPermutation, All}
 use Rattle.std.proofs.lemmas.List.{get_or-set_same}
 use Rattle.std.proofs.lemmas.List.Sums.{sum_by-cons, sum_by-append}
-use Rattle.std.proofs.lemmas.List.Sorted.{IsPermutation-refl, IsPermutation-sym, IsPermutation-cons, IsPermutation-middle, IsPermutation-trans, sum_by-IsPermutation}
+use Rattle.std.proofs.lemmas.List.Sorted.{IsPermutation-refl, IsPermutation-sym, IsPermutation-cons, IsPermutation-middle, IsPermutation-trans}
+use Rattle.std.proofs.lemmas.List.Sorted.{sum_by-IsPermutation}
 use Rattle.std.proofs.lemmas.Bool.Decides.{nat_tests}
 use Rattle.std.proofs.lemmas.Bool.{cases_lt}
 use Rattle.def_sums.specs.Sum.{nat_sum_over}
@@ -32,7 +34,8 @@ local_steps_are_steps = record {
       let with_held = subst (GivesRight stripe (history_of before stripe) (rights_held before pass) job history) (sym now) gives in
       record {
         is_pass = is_pass;
-        gives_up = subst (λ (h : List ℕ). GivesRight stripe (history_of before stripe) (rights_held before pass) job h (get_or (set before.passes pass held) pass [])) (sym added) with_held;
+        gives_up = subst (λ (h : List ℕ). GivesRight stripe (history_of before stripe) (rights_held before pass) job h
+            (get_or (set before.passes pass held) pass [])) (sym added) with_held;
         other_passes = ap (set before.passes pass) (sym now);
         other_histories = ap (set before.histories stripe) (sym added);
         bag = refl;
@@ -122,7 +125,8 @@ no_greater_sum f (x ∷ xs) ys fewer = from (no_greater_sum f xs) (split_at x ys
         → (front : List ℕ) × (back : List ℕ) × (ys ≡ front ++ x ∷ back) → f x + nat_sum_over f xs ≤ nat_sum_over f ys
     from later (front, back, is) =
         let rest : (job : ℕ) → times job xs ≤ times job (front ++ back) =
-        (λ (job : ℕ). let a = times-cons job x xs in let b = fewer job in let c = times-middle job x front back in let e : times job ys ≡ times job (front ++ x ∷ back) = ap (times job) is in omega (arith, a, b, c, e)) in
+        (λ (job : ℕ). let a = times-cons job x xs in let b = fewer job in let c = times-middle job x front back in let e : times job ys
+        ≡ times job (front ++ x ∷ back) = ap (times job) is in omega (arith, a, b, c, e)) in
         let without = later (front ++ back) rest in
         let whole : nat_sum_over f ys ≡ nat_sum_over f (front ++ x ∷ back) = ap (nat_sum_over f) is in
         omega (arith, without, whole, nat-middle f x front back)

@@ -1,12 +1,14 @@
 -- What a pass makes of each job, and when it changes nothing.
-use Rattle.std.proofs.Common.{◌≡◌, ◌≢◌, ℕ, zero, suc, ◌+◌, ◌<◌, ◌≤◌, Bool, true, false, cond, ◌&&◌, List, [], ◌∷◌, ◌++◌, length, get_or, take, refl, ap, sym, subst, ◌∙◌, arith, inl, inr, ◌⊎◌, append-nil, length-append}
+use Rattle.std.proofs.Common.{◌≡◌, ◌≢◌, ℕ, zero, suc, ◌+◌, ◌<◌, ◌≤◌, Bool, true, false, cond, ◌&&◌, List, [], ◌∷◌, ◌++◌, length, get_or, take, refl, ap, sym}
+use Rattle.std.proofs.Common.{subst, ◌∙◌, arith, inl, inr, ◌⊎◌, append-nil, length-append}
 use Rattle.std.specs.List.{flat_map}
 use Rattle.std.specs.Prelude.{nat_le, All}
 use Rattle.std.proofs.lemmas.List.Elements.{All-nil, All-cons, All-head, All-tail}
 use Rattle.std.proofs.lemmas.Grind.{flat_map-append}
 use Rattle.std.proofs.lemmas.Bool.{and_parts, cases_lt, leb-false, lt-leb, le-leb}
 use Rattle.def_tree.specs.Tree.{Forest, bare, grown, prefix}
-use Rattle.def_history.specs.Jobs.{each_tree, subtrees, is_chance_job, is_cut, count_after, cut_each, pass, passes, jobs_then, IsPass, JobsComeOfPasses, NoRoomToCut, CutsUntilNoRoom}
+use Rattle.def_history.specs.Jobs.{each_tree, subtrees, is_chance_job, is_cut, count_after, cut_each, pass, passes, jobs_then, IsPass, JobsComeOfPasses}
+use Rattle.def_history.specs.Jobs.{NoRoomToCut, CutsUntilNoRoom}
 use Rattle.def_history.proofs.Cuts.{within_if_cut}
 
 -- one pass more is a pass over what the passes before it leave
@@ -21,7 +23,8 @@ jobs_come_of_passes = record { none_at_first = λ limit tree. refl; one_more = �
 -- what becomes of each job
 abbrev parts_of : ℕ → ℕ → List Forest → List (List Forest)
 parts_of limit count [] = []
-parts_of limit count (job ∷ rest) = cond (is_cut limit count job) (subtrees job ∷ parts_of limit (count_after count job) rest) ((job ∷ []) ∷ parts_of limit count rest)
+parts_of limit count (job ∷ rest) = cond (is_cut limit count job) (subtrees job ∷ parts_of limit (count_after count job) rest)
+    ((job ∷ []) ∷ parts_of limit count rest)
 
 abbrev together : List (List Forest) → List Forest
 together parts = flat_map (λ part. part) parts
@@ -44,7 +47,8 @@ module _ (limit : ℕ) where
   parts_counted : (count : ℕ) (jobs : List Forest) → length (parts_of limit count jobs) ≡ length jobs
   parts_counted count [] = refl
   parts_counted count (job ∷ rest) =
-      elim (is_cut limit count job) as (λ b. length (cond b (subtrees job ∷ parts_of limit (count_after count job) rest) ((job ∷ []) ∷ parts_of limit count rest)) ≡ suc (length rest)) [
+      elim (is_cut limit count job) as (λ b. length (cond b (subtrees job ∷ parts_of limit (count_after count job) rest)
+      ((job ∷ []) ∷ parts_of limit count rest)) ≡ suc (length rest)) [
         | true ↦ ap suc (parts_counted (count_after count job) rest)
         | false ↦ ap suc (parts_counted count rest)
       ]
@@ -75,7 +79,8 @@ module _ (limit : ℕ) where
       →
       Becomes limit (done + length part) rest parts place later later_part → Becomes limit done (job ∷ rest) (part ∷ parts) (suc place) later later_part
   becomes_later done job rest part parts place later later_part h =
-      let many : length (part ++ together (take place parts)) ≡ length part + length (together (take place parts)) = length-append part (together (take place parts)) in
+      let many : length (part ++ together (take place parts)) ≡ length part
+      + length (together (take place parts)) = length-append part (together (take place parts)) in
       let same : done + length part + jobs_then rest parts place later ≡ done + jobs_then (job ∷ rest) (part ∷ parts) (suc place) later = omega arith in
       record {
         cut = λ chance room. h.cut chance (subst (λ n. n ≤ limit) (sym same) room);
@@ -95,7 +100,8 @@ module _ (limit : ℕ) where
       ] refl
   becomes done count (job ∷ rest) many (suc place) none there =
       elim (is_cut limit count job) as (λ b.
-      Becomes limit done (job ∷ rest) (cond b (subtrees job ∷ parts_of limit (count_after count job) rest) ((job ∷ []) ∷ parts_of limit count rest)) (suc place) (get_or rest place none)
+      Becomes limit done (job ∷ rest) (cond b (subtrees job ∷ parts_of limit (count_after count job) rest) ((job ∷ []) ∷ parts_of limit count rest)) (suc place)
+      (get_or rest place none)
       (get_or (cond b (subtrees job ∷ parts_of limit (count_after count job) rest) ((job ∷ []) ∷ parts_of limit count rest)) (suc place) [])) [
         | true ↦
             let parts : List (List Forest) = parts_of limit (count_after count job) rest in
@@ -103,7 +109,8 @@ module _ (limit : ℕ) where
             (becomes (done + length (subtrees job)) (count_after count job) rest (omega arith) place none (omega arith))
         | false ↦
             let parts : List (List Forest) = parts_of limit count rest in
-            becomes_later done job rest (job ∷ []) parts place (get_or rest place none) (get_or parts place []) (becomes (done + 1) count rest (omega arith) place none (omega arith))
+            becomes_later done job rest (job ∷ []) parts place (get_or rest place none) (get_or parts place [])
+            (becomes (done + 1) count rest (omega arith) place none (omega arith))
       ]
 
   pub pass_parts : (jobs : List Forest) → (parts : List (List Forest)) × IsPass limit jobs (pass limit jobs) parts
@@ -149,7 +156,8 @@ module _ (limit : ℕ) where
   no_more_nodes : (count : ℕ) (jobs : List Forest) → nodes_of (cut_each limit count jobs) ≤ nodes_of jobs
   no_more_nodes count [] = omega arith
   no_more_nodes count (job ∷ rest) =
-      elim (is_cut limit count job) as (λ b. is_cut limit count job ≡ b → nodes_of (cond b (subtrees job ++ cut_each limit (count_after count job) rest) (job ∷ cut_each limit count rest)) ≤ nodes_of (job ∷ rest)) [
+      elim (is_cut limit count job) as (λ b. is_cut limit count job ≡ b → nodes_of
+      (cond b (subtrees job ++ cut_each limit (count_after count job) rest) (job ∷ cut_each limit count rest)) ≤ nodes_of (job ∷ rest)) [
         | true ↦ λ is.
             let chance = and_parts (is_chance_job job) (nat_le (count_after count job) limit) is in
             omega (
@@ -159,7 +167,12 @@ module _ (limit : ℕ) where
               nodes-append (subtrees job) (cut_each limit (count_after count job) rest),
               length-append (prefix job) (flat_map prefix rest),
             )
-        | false ↦ λ is. omega (arith, no_more_nodes count rest, length-append (prefix job) (flat_map prefix rest), length-append (prefix job) (flat_map prefix (cut_each limit count rest)))
+        | false ↦ λ is. omega (
+          arith,
+          no_more_nodes count rest,
+          length-append (prefix job) (flat_map prefix rest),
+          length-append (prefix job) (flat_map prefix (cut_each limit count rest)),
+        )
       ] refl
 
   abbrev Stays : ℕ → Forest → Type 0
@@ -177,7 +190,8 @@ module _ (limit : ℕ) where
             let chance = and_parts (is_chance_job job) (nat_le (count_after count job) limit) is in
             let less : nodes_of (subtrees job) < length (prefix job) = fewer_nodes job chance.0 in
             let rest_less : nodes_of (cut_each limit (count_after count job) rest) ≤ nodes_of rest = no_more_nodes (count_after count job) rest in
-            let cut : nodes_of (subtrees job ++ cut_each limit (count_after count job) rest) ≡ nodes_of (subtrees job) + nodes_of (cut_each limit (count_after count job) rest) = nodes-append (subtrees job) (cut_each limit (count_after count job) rest) in
+            let cut : nodes_of (subtrees job ++ cut_each limit (count_after count job) rest) ≡ nodes_of (subtrees job)
+            + nodes_of (cut_each limit (count_after count job) rest) = nodes-append (subtrees job) (cut_each limit (count_after count job) rest) in
             let whole : nodes_of (job ∷ rest) ≡ length (prefix job) + nodes_of rest = length-append (prefix job) (flat_map prefix rest) in
             let same : nodes_of (subtrees job ++ cut_each limit (count_after count job) rest) ≡ nodes_of (job ∷ rest) = ap nodes_of e in
             absurd (omega arith))

@@ -1,5 +1,6 @@
 -- The ranges of the jobs are those of all leaves.
-use Rattle.std.proofs.Common.{◌≡◌, ℕ, zero, suc, ◌+◌, ◌<◌, List, [], ◌∷◌, ◌++◌, length, get_or, take, drop, map, append_assoc, length-append, refl, ap, sym, ◌∙◌, arith}
+use Rattle.std.proofs.Common.{◌≡◌, ℕ, zero, suc, ◌+◌, ◌<◌, List, [], ◌∷◌, ◌++◌, length, get_or, take, drop, map, append_assoc, length-append, refl, ap, sym}
+use Rattle.std.proofs.Common.{◌∙◌, arith}
 use Rattle.std.specs.Prelude.{sum, flat_map}
 use Rattle.std.specs.List.{range_with_len}
 use Rattle.std.proofs.lemmas.List.Sums.{length-filter, sum_by-cons}
@@ -15,7 +16,8 @@ leaves-ranges_from : (first : ℕ) (counts : List ℕ)
     → flat_map leaves_of (ranges_from first counts) ≡ range_with_len first (sum counts)
 leaves-ranges_from first [] = refl
 leaves-ranges_from first (count ∷ rest) =
-    ap (λ xs. range_with_len first count ++ xs) (leaves-ranges_from (first + count) rest) ∙ sym (range-append first count (sum rest)) ∙ ap (range_with_len first) (sym (sum_by-cons (λ n. n) count rest))
+    ap (λ xs. range_with_len first count ++ xs) (leaves-ranges_from (first + count) rest) ∙ sym (range-append first count (sum rest))
+    ∙ ap (range_with_len first) (sym (sum_by-cons (λ n. n) count rest))
 
 length-leaves_in : (trees : Forest) → length (leaves_in trees) ≡ leaf_count (prefix trees)
 length-leaves_in trees = length-filter (λ (node : Node). is_leaf_kind node.kind) (prefix trees)
@@ -37,12 +39,14 @@ partition tree one =
 -- behind these leaves, the leaves at a job's range are its own
 leaves_at : (before : List Node) (jobs : List Forest) (first k : ℕ) (range : LeafRange) (job : Forest)
     → first ≡ length before → k < length jobs →
-    take (get_or (ranges_from first (map (λ j. leaf_count (prefix j)) jobs)) k range).count (drop (get_or (ranges_from first (map (λ j. leaf_count (prefix j)) jobs)) k range).first (before ++ flat_map leaves_in jobs))
+    take (get_or (ranges_from first (map (λ j. leaf_count (prefix j)) jobs)) k range).count
+    (drop (get_or (ranges_from first (map (λ j. leaf_count (prefix j)) jobs)) k range).first (before ++ flat_map leaves_in jobs))
     ≡ leaves_in (get_or jobs k job)
 leaves_at before [] first k range job at there = absurd (omega arith)
 leaves_at before (j ∷ rest) first zero range job at there =
     (λ i. take (sym (length-leaves_in j) i) (drop (at i) (before ++ (leaves_in j ++ flat_map leaves_in rest))))
-    ∙ ap (take (length (leaves_in j))) (drop-append_seam before (leaves_in j ++ flat_map leaves_in rest)) ∙ take-append_seam (leaves_in j) (flat_map leaves_in rest)
+    ∙ ap (take (length (leaves_in j))) (drop-append_seam before (leaves_in j ++ flat_map leaves_in rest))
+    ∙ take-append_seam (leaves_in j) (flat_map leaves_in rest)
 leaves_at before (j ∷ rest) first (suc k) range job at there =
     let next : first + leaf_count (prefix j) ≡ length (before ++ leaves_in j) = omega (arith, length-append before (leaves_in j), length-leaves_in j) in
     let ranges : List LeafRange = ranges_from (first + leaf_count (prefix j)) (map (λ x. leaf_count (prefix x)) rest) in

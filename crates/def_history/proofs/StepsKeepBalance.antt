@@ -1,5 +1,6 @@
 -- What every step keeps, by counts: each right is in the bag, held by a pass, or its job in the history, once in all.
-use Rattle.std.proofs.Common.{◌≡◌, ℕ, suc, ◌+◌, ◌<◌, ◌≤◌, ◌≢◌, Bool, true, false, cond, eqb, ltb, ◌&&◌, List, [], ◌∷◌, ◌++◌, length, get_or, set, refl, sym, ap, ◌∙◌, subst, arith, inl, inr, length-set}
+use Rattle.std.proofs.Common.{◌≡◌, ℕ, suc, ◌+◌, ◌<◌, ◌≤◌, ◌≢◌, Bool, true, false, cond, eqb, ltb, ◌&&◌, List, [], ◌∷◌, ◌++◌, length, get_or, set, refl, sym, ap}
+use Rattle.std.proofs.Common.{◌∙◌, subst, arith, inl, inr, length-set}
 use Rattle.std.specs.Prelude.{All, sum_by, IsPermutation}
 use Rattle.std.proofs.lemmas.List.{get_or-set_same, get_or-set_other}
 use Rattle.std.proofs.lemmas.List.Sums.{sum_by-cons, sum_by_push, sum_by-set}
@@ -7,7 +8,8 @@ use Rattle.std.proofs.lemmas.List.Sorted.{sum_by_popped, sum_by-IsPermutation}
 use Rattle.std.proofs.lemmas.Bool.Decides.{nat_tests}
 use Rattle.std.proofs.lemmas.Bool.{cases_lt, cases_eq}
 use Rattle.def_history.specs.History.{times}
-use Rattle.def_history.specs.Core.{State, Right, Step, draw, add, Draws, Adds, OneStepLeads, StepsLead, none, first, IsOpening, IsReached, times_right, times_held, rights_of, rights_held, history_of, stripe_count}
+use Rattle.def_history.specs.Core.{State, Right, Step, draw, add, Draws, Adds, OneStepLeads, StepsLead, none, first, IsOpening, IsReached, times_right}
+use Rattle.def_history.specs.Core.{times_held, rights_of, rights_held, history_of, stripe_count}
 use Rattle.def_history.proofs.Counts.{one_if, times-job_numbers, times_right-rights_of}
 
 -- for each stripe, each job is once in all in the bag, held by a pass or in the stripe's history, and no other is;
@@ -68,7 +70,8 @@ draw_keeps jobs before pass drawn after old step = record { balance = balance; n
         let inside : ltb stripe (stripe_count before) ≡ true = grind (arith, nat_tests) in
         let held = rw inside at (draw_held before pass drawn after step job stripe) in
         let bag = times_popped drawn job before.bag after.bag step.takes_job.leaves_bag in
-        let history : times job (history_of after stripe) ≡ times job (history_of before stripe) = ap (λ (h : List (List ℕ)). times job (get_or h stripe [])) step.histories in
+        let history : times job (history_of after stripe) ≡ times job (history_of before stripe) = ap (λ (h : List (List ℕ)). times job (get_or h stripe []))
+        step.histories in
         omega (arith, held, bag, history, old.balance job stripe below')
 
     no_stripe : (job stripe : ℕ) → stripe_count after ≤ stripe → times_held after job stripe ≡ 0
@@ -109,7 +112,8 @@ add_history : (before : State) (pass job stripe : ℕ) (after : State) → Adds 
     → stripe < stripe_count before → (j k : ℕ)
     → times j (history_of after k) ≡ times j (history_of before k) + one_if (eqb job j && eqb stripe k)
 add_history before pass job stripe after step below j k =
-    let e : history_of after k ≡ get_or (set before.histories stripe (history_of before stripe ++ job ∷ [])) k [] = ap (λ (h : List (List ℕ)). get_or h k []) (histories_after before pass job stripe after step) in
+    let e : history_of after k ≡ get_or (set before.histories stripe (history_of before stripe ++ job ∷ [])) k [] = ap (λ (h : List (List ℕ)). get_or h k [])
+    (histories_after before pass job stripe after step) in
     ap (times j) e ∙ elim (cases_eq k stripe) [ inl same ↦ here e same | inr other ↦ there e other ]
   where
     here : (history_of after k ≡ get_or (set before.histories stripe (history_of before stripe ++ job ∷ [])) k [])
@@ -117,8 +121,10 @@ add_history before pass job stripe after step below j k =
         → times j (get_or (set before.histories stripe (history_of before stripe ++ job ∷ [])) k [])
         ≡ times j (history_of before k) + one_if (eqb job j && eqb stripe k)
     here e same =
-        subst (λ (k' : ℕ). times j (get_or (set before.histories stripe (history_of before stripe ++ job ∷ [])) k' []) ≡ times j (history_of before k') + one_if (eqb job j && eqb stripe k')) (sym same)
-        (let at : get_or (set before.histories stripe (history_of before stripe ++ job ∷ [])) stripe [] ≡ history_of before stripe ++ job ∷ [] = get_or-set_same before.histories stripe (history_of before stripe ++ job ∷ []) [] below in
+        subst (λ (k' : ℕ). times j (get_or (set before.histories stripe (history_of before stripe ++ job ∷ [])) k' []) ≡ times j (history_of before k')
+        + one_if (eqb job j && eqb stripe k')) (sym same)
+        (let at : get_or (set before.histories stripe (history_of before stripe ++ job ∷ [])) stripe [] ≡ history_of before stripe ++ job
+        ∷ [] = get_or-set_same before.histories stripe (history_of before stripe ++ job ∷ []) [] below in
         let push = sum_by_push (λ (x : ℕ). cond (eqb x j) 1 0) (history_of before stripe) job in
         let one : one_if (eqb job j && eqb stripe stripe) ≡ one_if (eqb job j) = grind (arith, nat_tests) in
         ap (times j) at ∙ push ∙ ap (λ n. times j (history_of before stripe) + n) (sym one))
@@ -128,7 +134,8 @@ add_history before pass job stripe after step below j k =
         → times j (get_or (set before.histories stripe (history_of before stripe ++ job ∷ [])) k [])
         ≡ times j (history_of before k) + one_if (eqb job j && eqb stripe k)
     there e other =
-        let at : get_or (set before.histories stripe (history_of before stripe ++ job ∷ [])) k [] ≡ history_of before k = get_or-set_other before.histories stripe k (history_of before stripe ++ job ∷ []) [] other in
+        let at : get_or (set before.histories stripe (history_of before stripe ++ job ∷ [])) k []
+        ≡ history_of before k = get_or-set_other before.histories stripe k (history_of before stripe ++ job ∷ []) [] other in
         let zero' : one_if (eqb job j && eqb stripe k) ≡ 0 = grind (arith, nat_tests) in
         omega (arith, ap (times j) at, zero')
 
@@ -178,7 +185,11 @@ no_rights (head ∷ tail) empty job stripe =
     omega (arith, sum_by-cons (λ rights. times_right job stripe rights) head tail, here, later)
 
 pub opening_balanced : (jobs : ℕ) (state : State) → IsOpening jobs state → IsBalanced jobs state
-opening_balanced jobs state opening = record { balance = balance; no_stripe = λ job stripe above. no_rights state.passes opening.passes job stripe; bag_once = λ job. omega (arith, bag_is job) }
+opening_balanced jobs state opening = record {
+  balance = balance;
+  no_stripe = λ job stripe above. no_rights state.passes opening.passes job stripe;
+  bag_once = λ job. omega (arith, bag_is job);
+}
   where
     bag_is : (job : ℕ) → times job state.bag ≡ one_if (ltb job jobs)
     bag_is job = sum_by-IsPermutation (λ (x : ℕ). cond (eqb x job) 1 0) _ _ opening.bag ∙ times-job_numbers jobs job

@@ -1,5 +1,6 @@
 -- The core of draws and additions, for any number of passes and stripes.
-use Rattle.std.specs.Prelude.{◌≡◌, ℕ, ◌<◌, ◌==◌, ◌&&◌, List, [], ◌∷◌, ◌++◌, length, map, All, Contains, count_by, sum_by, slice_index_or, slice_set, IsPermutation}
+use Rattle.std.specs.Prelude.{◌≡◌, ℕ, ◌<◌, ◌==◌, ◌&&◌, List, [], ◌∷◌, ◌++◌, length, map, All, Contains, count_by}
+use Rattle.std.specs.Prelude.{sum_by, slice_index_or, slice_set, IsPermutation}
 use Rattle.std.specs.List.{range_with_len}
 use Rattle.def_history.specs.History.{job_numbers}
 
@@ -44,7 +45,8 @@ pub record GivesRight (stripe : ℕ) (history : List ℕ) (held : List Right) (j
 -- a pass draws a job from the bag; all else stays
 pub record Draws (before : State) (pass job : ℕ) (after : State) : Type 0 where
   pub is_pass : pass < length before.passes
-  pub takes_job : TakesJob (stripe_count before) before.bag (rights_held before pass) job after.bag (rights_held after pass)
+  pub takes_job : TakesJob (stripe_count before) before.bag (rights_held before pass) job after.bag
+      (rights_held after pass)
   pub other_passes : after.passes ≡ slice_set before.passes pass (rights_held after pass)
   pub histories : after.histories ≡ before.histories
 

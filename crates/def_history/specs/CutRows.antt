@@ -29,15 +29,19 @@ chance_chain zero tree = tree
 chance_chain (suc n) tree = drawn 1 (chance_chain n tree)
 
 pub record LeafCountRows : Type 0 where
-  pub chance : leaf_counts (forest_of (inner_node Chance 1 2 ∷ inner_node One 1 2 ∷ leaf_node 0 ∷ leaf_node 0 ∷ leaf_node 0 ∷ []))
+  pub chance : leaf_counts (forest_of (inner_node Chance 1 2 ∷ inner_node One 1 2 ∷ leaf_node 0 ∷ leaf_node 0
+      ∷ leaf_node 0 ∷ []))
       ≡ 2 ∷ 1 ∷ []
   pub pennies : leaf_counts matching_pennies ≡ 4 ∷ []
   pub one_leaf : leaf_counts (forest_of (leaf_node 0 ∷ [])) ≡ 1 ∷ []
-  pub player_over_chance : leaf_counts (forest_of (inner_node One 1 2 ∷ inner_node Chance 1 2 ∷ leaf_node 0 ∷ leaf_node 0 ∷ leaf_node 0 ∷ [])) ≡ 3 ∷ []
+  pub player_over_chance : leaf_counts (forest_of (inner_node One 1 2 ∷ inner_node Chance 1 2 ∷ leaf_node 0
+      ∷ leaf_node 0 ∷ leaf_node 0 ∷ [])) ≡ 3 ∷ []
   pub chance_over_chance :
-      leaf_counts (forest_of (inner_node Chance 1 3 ∷ inner_node Chance 2 2 ∷ leaf_node 0 ∷ leaf_node 0 ∷ leaf_node 0 ∷ inner_node Chance 3 2 ∷ inner_node Chance 4 2 ∷ leaf_node 0 ∷ leaf_node 0 ∷ leaf_node 0 ∷ []))
+      leaf_counts (forest_of (inner_node Chance 1 3 ∷ inner_node Chance 2 2 ∷ leaf_node 0 ∷ leaf_node 0 ∷ leaf_node 0
+      ∷ inner_node Chance 3 2 ∷ inner_node Chance 4 2 ∷ leaf_node 0 ∷ leaf_node 0 ∷ leaf_node 0 ∷ []))
       ≡ 1 ∷ 1 ∷ 1 ∷ 1 ∷ 1 ∷ 1 ∷ []
-  pub chance_under_a_player : leaf_counts (forest_of (inner_node Chance 1 2 ∷ inner_node One 1 2 ∷ inner_node Chance 2 2 ∷ leaf_node 0 ∷ leaf_node 0 ∷ leaf_node 0 ∷ leaf_node 0 ∷ [])) ≡ 3 ∷ 1 ∷ []
+  pub chance_under_a_player : leaf_counts (forest_of (inner_node Chance 1 2 ∷ inner_node One 1 2 ∷ inner_node Chance 2 2
+      ∷ leaf_node 0 ∷ leaf_node 0 ∷ leaf_node 0 ∷ leaf_node 0 ∷ [])) ≡ 3 ∷ 1 ∷ []
   pub last_pass : leaf_counts (chance_chain 63 (drawn 2 (leaves 2 bare))) ≡ 1 ∷ 1 ∷ []
   pub past_the_last_pass : leaf_counts (chance_chain 64 (drawn 2 (leaves 2 bare))) ≡ 2 ∷ []
 

@@ -1,6 +1,8 @@
 -- The jobs into which the sum over a game's leaves is cut: subtrees below chance nodes near the root. The way of
 -- cutting and its limits are this project's own.
-use Rattle.std.specs.Prelude.{◌≡◌, ◌≢◌, ◌↔◌, ◌⊎◌, ℕ, zero, suc, ◌+◌, ◌-◌, ◌<◌, ◌≤◌, Bool, true, false, ◌&&◌, nat_le, if◌then◌else◌, List, [], ◌∷◌, ◌++◌, length, map, filter, flat_map, take, drop, slice_index_or, All}
+use Rattle.std.specs.Prelude.{◌≡◌, ◌≢◌, ◌↔◌, ◌⊎◌, ℕ, zero, suc, ◌+◌, ◌-◌, ◌<◌, ◌≤◌, Bool, true, false, ◌&&◌, nat_le}
+use Rattle.std.specs.Prelude.{if◌then◌else◌, List, [], ◌∷◌, ◌++◌, length, map, filter, flat_map, take, drop}
+use Rattle.std.specs.Prelude.{slice_index_or, All}
 use Rattle.def_tree.specs.declared.Kind.TheVariants.{Chance}
 use Rattle.def_tree.specs.declared.Node.{Node}
 use Rattle.def_tree.specs.Tree.{Forest, bare, grown, prefix, is_leaf_kind, leaf_count, tree_count}
@@ -39,7 +41,8 @@ is_cut limit count job = is_chance_job job && nat_le (count_after count job) lim
 abbrev pub cut_each : ℕ → ℕ → List Forest → List Forest
 cut_each limit count [] = []
 cut_each limit count (job ∷ rest) =
-    if is_cut limit count job then subtrees job ++ cut_each limit (count_after count job) rest else job ∷ cut_each limit count rest
+    if is_cut limit count job then subtrees job ++ cut_each limit (count_after count job) rest else job
+    ∷ cut_each limit count rest
 
 abbrev pub pass : ℕ → List Forest → List Forest
 pass limit jobs = cut_each limit (length jobs) jobs
@@ -79,11 +82,13 @@ LaterPassesKeep = (limit : ℕ) (jobs : List Forest) (n : ℕ) → pass limit jo
 -- how many jobs there are once the job at a place gives way:
 -- those that came of the jobs before it, its subtrees, and the jobs behind it
 abbrev pub jobs_then : List Forest → List (List Forest) → ℕ → Forest → ℕ
-jobs_then jobs parts place job = length (flat_map (λ part. part) (take place parts)) + length (subtrees job) + length (drop (suc place) jobs)
+jobs_then jobs parts place job = length (flat_map (λ part. part) (take place parts)) + length (subtrees job)
+    + length (drop (suc place) jobs)
 
 -- what became of the job at a place: its subtrees,
 -- where it is a chance node's and there are then at most `limit` jobs, and else itself alone
-pub record BecomesPart (limit : ℕ) (jobs : List Forest) (parts : List (List Forest)) (place : ℕ) (job : Forest) (part : List Forest) : Type 0 where
+pub record BecomesPart (limit : ℕ) (jobs : List Forest) (parts : List (List Forest)) (place : ℕ) (job : Forest)
+    (part : List Forest) : Type 0 where
   pub cut : is_chance_job job ≡ true → jobs_then jobs parts place job ≤ limit → part ≡ subtrees job
   pub kept : (is_chance_job job ≡ true → limit < jobs_then jobs parts place job) → part ≡ job ∷ []
 

@@ -1,7 +1,8 @@
 -- The laws of the core and of its histories.
 use Rattle.std.specs.Prelude.{◌≡◌, ℕ, ℤ, ◌+◌, ◌<◌, ◌*◌, ◌↔◌, ◌⊎◌, List, [], length, All, Contains}
 use Rattle.def_history.specs.History.{times, IsLegal, IsComplete, replay, sum_over_jobs, stripe_of, place_of}
-use Rattle.def_history.specs.Core.{State, Draws, Holder, Holds, IsGivenUp, IsReached, history_of, rights_held, stripe_count, times_held}
+use Rattle.def_history.specs.Core.{State, Draws, Holder, Holds, IsGivenUp, IsReached, history_of, rights_held}
+use Rattle.def_history.specs.Core.{stripe_count, times_held}
 use Rattle.def_history.specs.Ranges.{LeafRange, Partitions}
 use Rattle.def_history.specs.Leaves.{amounts, sum_over_leaves}
 
@@ -28,7 +29,8 @@ EachRightCountsOnce = (jobs : ℕ) (state : State) → IsReached jobs state → 
 abbrev pub EachRightHasOneHolder : Type 0
 EachRightHasOneHolder = (jobs : ℕ) (state : State) → IsReached jobs state → (job stripe : ℕ) → job < jobs
     → stripe < stripe_count state
-    → ((holder : Holder) × Holds state holder job stripe × ((other : Holder) → Holds state other job stripe → other ≡ holder)) ⊎ IsGivenUp state job stripe
+    → ((holder : Holder) × Holds state holder job stripe
+    × ((other : Holder) → Holds state other job stripe → other ≡ holder)) ⊎ IsGivenUp state job stripe
 
 -- a right is given up exactly where the job is in that stripe's history
 abbrev pub ARightIsGivenUpByAdding : Type 0
@@ -47,7 +49,8 @@ abbrev pub IsAtEnd : State → Type 0
 IsAtEnd state = (state.bag ≡ []) × All (λ rights. rights ≡ []) state.passes
 
 abbrev pub HistoriesEndComplete : Type 0
-HistoriesEndComplete = (jobs : ℕ) (state : State) → IsReached jobs state → IsAtEnd state → All (IsComplete jobs) state.histories
+HistoriesEndComplete = (jobs : ℕ) (state : State) → IsReached jobs state → IsAtEnd state
+    → All (IsComplete jobs) state.histories
 
 -- and then each row's replay, in the stripe that has the row, is the plain sum over all jobs
 abbrev pub RowsEndAsPlainSums : Type 0
@@ -81,4 +84,5 @@ abbrev pub RowsEndAsLeafSums : Type 0
 RowsEndAsLeafSums = (leaf_amount : ℕ → ℕ → ℤ) (ranges : List LeafRange) (leaves : ℕ) → Partitions ranges leaves
     → (state : State) → IsReached (length ranges) state → IsAtEnd state → 0 < stripe_count state
     → (row : ℕ)
-    → replay (amounts leaf_amount ranges) (history_of state (stripe_of (stripe_count state) row)) row ≡ sum_over_leaves leaf_amount leaves row
+    → replay (amounts leaf_amount ranges) (history_of state (stripe_of (stripe_count state) row)) row
+    ≡ sum_over_leaves leaf_amount leaves row

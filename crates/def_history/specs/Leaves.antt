@@ -10,7 +10,8 @@ job_amount leaf_amount range row = sum_over (λ leaf. leaf_amount leaf row) (lea
 
 -- the amounts of the jobs that a list of ranges names, by the job's number and the row
 abbrev pub amounts : (ℕ → ℕ → ℤ) → List LeafRange → ℕ → ℕ → ℤ
-amounts leaf_amount ranges job row = job_amount leaf_amount (slice_index_or ranges job (record { first = 0; count = 0 })) row
+amounts leaf_amount ranges job row = job_amount leaf_amount
+    (slice_index_or ranges job (record { first = 0; count = 0 })) row
 
 -- the plain sum at a row over all leaves
 abbrev pub sum_over_leaves : (ℕ → ℕ → ℤ) → ℕ → ℕ → ℤ

@@ -1,16 +1,26 @@
 -- What one actor does under one lock, and how its values tell the core: what it can't see there stays as it is.
-use Rattle.std.specs.Prelude.{◌≡◌, ℕ, ℤ, ◌<◌, ◌≤◌, ◌==◌, ◌&&◌, ◌↔◌, nat_lt, if◌then◌else◌, List, length, slice_set, unsigned_abs, IsPermutation}
+use Rattle.std.specs.Prelude.{◌≡◌, ℕ, ℤ, ◌<◌, ◌≤◌, ◌==◌, ◌&&◌, ◌↔◌, nat_lt, if◌then◌else◌, List, length, slice_set}
+use Rattle.std.specs.Prelude.{unsigned_abs, IsPermutation}
 use Rattle.def_sums.specs.Sum.{nat_sum_over}
 use Rattle.def_history.specs.History.{IsLegal, job_numbers, replay}
-use Rattle.def_history.specs.Core.{State, Right, Draws, Adds, TakesJob, GivesRight, rights_held, rights_of, history_of, stripe_count, times_right}
+use Rattle.def_history.specs.Core.{State, Right, Draws, Adds, TakesJob, GivesRight, rights_held, rights_of, history_of}
+use Rattle.def_history.specs.Core.{stripe_count, times_right}
 
 -- the state where a pass holds other rights and the bag has other jobs,
 -- and where it holds other rights and a stripe has another history
 abbrev pub with_bag : State → ℕ → List ℕ → List Right → State
-with_bag state pass bag held = record { bag = bag; passes = slice_set state.passes pass held; histories = state.histories }
+with_bag state pass bag held = record {
+  bag = bag;
+  passes = slice_set state.passes pass held;
+  histories = state.histories;
+}
 
 abbrev pub with_history : State → ℕ → ℕ → List ℕ → List Right → State
-with_history state pass stripe history held = record { bag = state.bag; passes = slice_set state.passes pass held; histories = slice_set state.histories stripe history }
+with_history state pass stripe history held = record {
+  bag = state.bag;
+  passes = slice_set state.passes pass held;
+  histories = slice_set state.histories stripe history;
+}
 
 -- whatever else the core's state is, what is done under the bag's lock is a draw,
 -- and what is done under a stripe's lock an addition

@@ -1,5 +1,6 @@
 -- Packets: what one job adds, row after row. And where the rows lie in the stripes.
-use Rattle.std.specs.Prelude.{◌≡◌, ◌≢◌, ℕ, ℤ, pos, ◌+◌, ◌-◌, ◌*◌, ◌/◌, ◌<◌, ◌↔◌, ◌==◌, if◌then◌else◌, List, [], ◌∷◌, All}
+use Rattle.std.specs.Prelude.{◌≡◌, ◌≢◌, ℕ, ℤ, pos, ◌+◌, ◌-◌, ◌*◌, ◌/◌, ◌<◌, ◌↔◌, ◌==◌, if◌then◌else◌, List, [], ◌∷◌}
+use Rattle.std.specs.Prelude.{All}
 use Rattle.def_sums.specs.Sum.{sum_over}
 
 -- one row's amount
@@ -25,7 +26,8 @@ brought entries row = sum_over (λ entry. if entry.row == row then entry.amount 
 
 -- a job's packet brings its amount to each row
 abbrev pub PacketsBringAmounts : Type 0
-PacketsBringAmounts = (amount : ℕ → ℕ → ℤ) (rows job : ℕ) (entries : List RowAmount) → IsPacketOf amount rows job entries
+PacketsBringAmounts = (amount : ℕ → ℕ → ℤ) (rows job : ℕ) (entries : List RowAmount)
+    → IsPacketOf amount rows job entries
     → (row : ℕ) → row < rows → brought entries row ≡ amount job row
 
 -- how many rows lie in a stripe, where there are so many in all

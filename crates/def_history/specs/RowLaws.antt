@@ -17,7 +17,8 @@ pub record SumToLeafSums (form : SequenceForm) (numbers_one numbers_two : List �
       → sum_over_leaves (leaf_amount form numbers_one numbers_two) (length form.leaves) s
       ≡ leaf_sum One form.leaves numbers_two s
   pub rows_of_two : (s : ℕ)
-      → sum_over_leaves (leaf_amount form numbers_one numbers_two) (length form.leaves) (sequence_count form.sets_one + s) ≡ leaf_sum Two form.leaves numbers_one s
+      → sum_over_leaves (leaf_amount form numbers_one numbers_two) (length form.leaves)
+      (sequence_count form.sets_one + s) ≡ leaf_sum Two form.leaves numbers_one s
 
 abbrev pub RowsSumOverLeaves : Type 0
 RowsSumOverLeaves = (form : SequenceForm) (numbers_one numbers_two : List ℕ)
@@ -41,9 +42,11 @@ JobsHaveTheirLeafSums = (form : SequenceForm) (numbers_one numbers_two : List �
 pub record ReplaysToLeafSums (form : SequenceForm) (numbers_one numbers_two : List ℕ) (ranges : List LeafRange)
     (state : State) : Type 0 where
   pub rows_of_one : (s : ℕ) → s < sequence_count form.sets_one
-      → replay (amounts (leaf_amount form numbers_one numbers_two) ranges) (history_of state (stripe_of (stripe_count state) s)) s ≡ leaf_sum One form.leaves numbers_two s
+      → replay (amounts (leaf_amount form numbers_one numbers_two) ranges)
+      (history_of state (stripe_of (stripe_count state) s)) s ≡ leaf_sum One form.leaves numbers_two s
   pub rows_of_two : (s : ℕ) → let row : ℕ = sequence_count form.sets_one + s in
-      replay (amounts (leaf_amount form numbers_one numbers_two) ranges) (history_of state (stripe_of (stripe_count state) row)) row ≡ leaf_sum Two form.leaves numbers_one s
+      replay (amounts (leaf_amount form numbers_one numbers_two) ranges)
+      (history_of state (stripe_of (stripe_count state) row)) row ≡ leaf_sum Two form.leaves numbers_one s
 
 abbrev pub ReplaysEndAsRows : Type 0
 ReplaysEndAsRows = (form : SequenceForm) (numbers_one numbers_two : List ℕ) (ranges : List LeafRange)
@@ -58,4 +61,5 @@ AmountsAreSmall = (form : SequenceForm) (numbers_one numbers_two : List ℕ) (bo
     → Partitions ranges (length form.leaves)
     → ((s : ℕ) → slice_index numbers_one s ≤ bound) → ((s : ℕ) → slice_index numbers_two s ≤ bound)
     → (row : ℕ)
-    → nat_sum_over (λ job. unsigned_abs (amounts (leaf_amount form numbers_one numbers_two) ranges job row)) (job_numbers (length ranges)) ≤ mass_of form.leaves * bound
+    → nat_sum_over (λ job. unsigned_abs (amounts (leaf_amount form numbers_one numbers_two) ranges job row))
+    (job_numbers (length ranges)) ≤ mass_of form.leaves * bound

@@ -15,7 +15,14 @@ not_all : (before now : Option (List ℕ)) (bytes : List ℕ) → IsSome now →
 not_all None now bytes told front whole = absurd (cc)
 not_all (Some xs) now bytes told front whole =
     let same : xs ++ take front.count bytes ≡ xs ++ bytes = same_bytes (xs ++ take front.count bytes) (xs ++ bytes) (sym front.appended ∙ whole) in
-    absurd (omega (arith, front.some_left told, ap length same, length-append xs bytes, length-append xs (take front.count bytes), length-take front.count bytes))
+    absurd (omega (
+      arith,
+      front.some_left told,
+      ap length same,
+      length-append xs bytes,
+      length-append xs (take front.count bytes),
+      length-take front.count bytes,
+    ))
 
 pub front_is_not_whole : (sink : SinkCall) (bytes : List ℕ) → IsSome sink.now → WroteFront sink bytes
     → Wrote sink bytes → ⊥

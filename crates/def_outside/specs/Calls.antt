@@ -72,12 +72,13 @@ pub data Says (sink : SinkCall) (line : List ℕ) : Type 0 where
   cut_off : HasFailedOnce sink.faults → IsCutOff sink.before sink.now sink.failed_length line → Says sink line
 
 -- A count that grew may tell of a fault, and so does one that grew by one. A front is never the whole where the sink
--- tells what it has, and nothing is a front of some bytes. A line that is said is written whole or as a front, and whole
--- where the sink can't have failed.
+-- tells what it has, and nothing is a front of some bytes. A line that is said is written whole or as a front, and
+-- whole where the sink can't have failed.
 pub record CallsAreRead : Type 0 where
   pub failed : (faults : Faults) → HasFailed faults → MayHaveFailed faults
   pub failed_once : (faults : Faults) → HasFailedOnce faults → MayHaveFailed faults
   pub not_whole : (sink : SinkCall) (bytes : List ℕ) → IsSome sink.now → WroteFront sink bytes → Wrote sink bytes → ⊥
   pub nothing : (sink : SinkCall) (bytes : List ℕ) → 0 < length bytes → WroteNothing sink → WroteFront sink bytes
   pub said : (sink : SinkCall) (line : List ℕ) → Says sink line → Wrote sink line ⊎ WroteFront sink line
-  pub said_whole : (sink : SinkCall) (line : List ℕ) → Says sink line → (MayHaveFailed sink.faults → ⊥) → Wrote sink line
+  pub said_whole : (sink : SinkCall) (line : List ℕ) → Says sink line → (MayHaveFailed sink.faults → ⊥)
+      → Wrote sink line

@@ -13,8 +13,8 @@ abbrev pub Writes : {T E : Type 0} → Option (List ℕ) → Option (List ℕ) �
 Writes before now text (Ok _) = now ≡ append_known before text
 Writes before now text (Err _) = AppendsPrefix before now text
 
--- The bytes were cut off by a write that failed, and nothing was written after it: a front of them was appended, and the
--- piece of the write that failed, of this length, was the rest of them, at least one byte.
+-- The bytes were cut off by a write that failed, and nothing was written after it: a front of them was appended, and
+-- the piece of the write that failed, of this length, was the rest of them, at least one byte.
 pub record IsCutOff (before now : Option (List ℕ)) (failed_length : ℕ) (bytes : List ℕ) : Type 0 where
   pub count : ℕ
   pub appended : now ≡ append_known before (take count bytes)

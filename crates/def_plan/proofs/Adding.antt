@@ -79,7 +79,8 @@ at_start n = ap (λ m. slice_index (replicate m 0) 0) more
     more = omega arith
 
 no_plan : (sets : List InformationSet) (root : ℕ) → IsPlan sets root (cleared sets) → ⊥
-no_plan sets root p = let zero' : slice_index (cleared sets) 0 ≡ 0 = at_start (nat_sum_over (λ h. h.actions) sets) in omega (arith, p.some_root, p.root_weight, zero')
+no_plan sets root p = let zero' : slice_index (cleared sets) 0 ≡ 0 = at_start (nat_sum_over (λ h. h.actions) sets) in omega
+    (arith, p.some_root, p.root_weight, zero')
 
 root_is : (sets : List InformationSet) (root : ℕ) (plan : List ℕ) → IsPlanOrCleared sets root plan
     → (length plan ≡ sequence_count sets) × (slice_index plan 0 ≡ root)

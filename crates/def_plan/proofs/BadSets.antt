@@ -1,5 +1,6 @@
 -- The test of a plan.
-use Rattle.std.proofs.Common.{◌≡◌, ℕ, zero, suc, ◌+◌, ◌<◌, ◌↔◌, eqb, leb, cond, Bool, true, false, ◌&&◌, List, [], ◌∷◌, length, slice_index, get_or, take, All, arith, ap, sym, ◌∙◌, refl, subst, eq-eqb, ⊎_elim, Option, Some, None, MatchOption, eqb-true, leb-true, le-leb}
+use Rattle.std.proofs.Common.{◌≡◌, ℕ, zero, suc, ◌+◌, ◌<◌, ◌↔◌, eqb, leb, cond, Bool, true, false, ◌&&◌, List, [], ◌∷◌, length, slice_index, get_or, take, All}
+use Rattle.std.proofs.Common.{arith, ap, sym, ◌∙◌, refl, subst, eq-eqb, ⊎_elim, Option, Some, None, MatchOption, eqb-true, leb-true, le-leb}
 use Rattle.std.proofs.lemmas.Bool.{false≢true, and_parts, and_from, cases_lt}
 use Rattle.std.proofs.lemmas.Bool.Decides.{eqb_tells}
 use Rattle.std.proofs.lemmas.List.{get_or-take, length-take-le}
@@ -46,7 +47,8 @@ search_one : (plan : List ℕ) (k : ℕ) (h : PlacedSet) (hs : List PlacedSet)
     → Searched plan k (h ∷ hs) (first_not_adding plan k (h ∷ hs))
 search_one plan k h hs rest =
     ⊎_elim
-    (λ yes. subst (λ b. Searched plan k (h ∷ hs) (cond b (first_not_adding plan (k + 1) hs) (Some k))) (sym yes.0) (later plan k h hs yes.1 (first_not_adding plan (k + 1) hs) rest))
+    (λ yes. subst (λ b. Searched plan k (h ∷ hs) (cond b (first_not_adding plan (k + 1) hs) (Some k))) (sym yes.0)
+    (later plan k h hs yes.1 (first_not_adding plan (k + 1) hs) rest))
     (λ no. subst (λ b. Searched plan k (h ∷ hs) (cond b (first_not_adding plan (k + 1) hs) (Some k))) (sym no.0) (at_once plan k h hs no.1))
     (eqb_tells (nat_sum_over (λ s. slice_index plan s) (sequences_of h)) (slice_index plan h.before))
 
@@ -62,7 +64,8 @@ passes sets root plan = eqb (length plan) (sequence_count sets) && (leb 1 root &
 passes-from : (sets : List InformationSet) (root : ℕ) (plan : List ℕ) → HasRoot sets root plan
     → passes sets root plan ≡ true
 passes-from sets root plan h =
-    and_from _ _ (eq-eqb (length plan) (sequence_count sets) h.all_sequences) (and_from _ _ (le-leb 1 root h.some_root) (eq-eqb (slice_index plan 0) root h.root_weight))
+    and_from _ _ (eq-eqb (length plan) (sequence_count sets) h.all_sequences)
+    (and_from _ _ (le-leb 1 root h.some_root) (eq-eqb (slice_index plan 0) root h.root_weight))
 
 root-from : (sets : List InformationSet) (root : ℕ) (plan : List ℕ) → passes sets root plan ≡ true
     → HasRoot sets root plan
@@ -102,7 +105,8 @@ earlier_fits : (sets : List InformationSet) (root : ℕ) (plan : List ℕ) (j k 
     → IsBadSet sets root plan (suc k) → j < k → ⊥
 earlier_fits sets root plan j k a b less =
     let d : PlacedSet = record { first = 0; before = 0; actions = 0 } in
-    a.3 d (subst (AddsUp plan) (get_or-take k (placed sets) j d less) (b.2 j d (omega (arith, length-take-le k (placed sets) (omega (arith, b.1, length-placed 1 sets))))))
+    a.3 d (subst (AddsUp plan) (get_or-take k (placed sets) j d less) (b.2 j d
+    (omega (arith, length-take-le k (placed sets) (omega (arith, b.1, length-placed 1 sets))))))
 
 one_only : (sets : List InformationSet) (root : ℕ) (plan : List ℕ) (j k : ℕ) → IsBadSet sets root plan j
     → IsBadSet sets root plan k → j ≡ k

@@ -1,5 +1,6 @@
 -- The plan that follows one choice at each set.
-use Rattle.std.proofs.Common.{◌≡◌, ℕ, zero, suc, ◌+◌, ◌-◌, ◌≤◌, ◌<◌, eqb, cond, List, [], ◌∷◌, ◌++◌, map, zip, length, slice_index, All, arith, ap, sym, ◌∙◌, refl, length-append, eq-eqb, ne_eqb, ⊎_elim}
+use Rattle.std.proofs.Common.{◌≡◌, ℕ, zero, suc, ◌+◌, ◌-◌, ◌≤◌, ◌<◌, eqb, cond, List, [], ◌∷◌, ◌++◌, map, zip, length, slice_index, All, arith, ap, sym, ◌∙◌}
+use Rattle.std.proofs.Common.{refl, length-append, eq-eqb, ne_eqb, ⊎_elim}
 use Rattle.std.specs.List.{range_with_len, AllZip}
 use Rattle.std.proofs.lemmas.Bool.{cases_lt}
 use Rattle.std.proofs.lemmas.Bool.Decides.{eqb_tells}
@@ -30,8 +31,10 @@ all_from : (a m choice n : ℕ) → a ≤ choice → choice < a + m
 all_from a zero choice n low high = absurd (omega arith)
 all_from a (suc m) choice n low high =
     ⊎_elim
-    (λ yes. ap (λ b. cond b n 0 + nat_sum_over (λ x. x) (map (λ s. cond (eqb s choice) n 0) (range_with_len (a + 1) m))) yes.0 ∙ omega (arith, none_to (a + 1) m choice n (omega (arith, yes.1))))
-    (λ no. ap (λ b. cond b n 0 + nat_sum_over (λ x. x) (map (λ s. cond (eqb s choice) n 0) (range_with_len (a + 1) m))) no.0 ∙ omega (arith, all_from (a + 1) m choice n (omega (arith, no.1)) (omega arith)))
+    (λ yes. ap (λ b. cond b n 0 + nat_sum_over (λ x. x) (map (λ s. cond (eqb s choice) n 0) (range_with_len (a + 1) m))) yes.0
+    ∙ omega (arith, none_to (a + 1) m choice n (omega (arith, yes.1))))
+    (λ no. ap (λ b. cond b n 0 + nat_sum_over (λ x. x) (map (λ s. cond (eqb s choice) n 0) (range_with_len (a + 1) m))) no.0
+    ∙ omega (arith, all_from (a + 1) m choice n (omega (arith, no.1)) (omega arith)))
     (eqb_tells a choice)
 
 pub all_to-whole : (h : InformationSet) (choice : ℕ) → 1 ≤ choice → choice ≤ h.actions
@@ -85,8 +88,10 @@ follows first x (h ∷ hs) (c ∷ cs) e order are =
     ∙ get_or-map-range_with_len (λ a. cond (eqb a c) n 0) 1 h.actions (s - first) (1 + (s - first)) 0 (omega arith) refl
     ∙ ap (λ b. cond b n 0) (same_test (1 + (s - first)) c s (chosen here c) (λ q. omega (arith, are.0.0)) (λ q. omega (arith, are.0.0)))
     ∙ ap (λ m. cond (eqb s (chosen here c)) m 0) had
-    in
-    (All-range (λ s. slice_index r s ≡ cond (eqb s (chosen here c)) (slice_index r h.before) 0) first h.actions gives, follows (first + h.actions) x' hs cs e' later are.1)
+    in (
+      All-range (λ s. slice_index r s ≡ cond (eqb s (chosen here c)) (slice_index r h.before) 0) first h.actions gives,
+      follows (first + h.actions) x' hs cs e' later are.1,
+    )
 
 -- the plan of some choices gives each chosen sequence all, and the others of its set nothing
 pub pure_plan-follows : (sets : List InformationSet) (choices : List ℕ) → AreInOrder sets → AreActions sets choices
@@ -119,5 +124,6 @@ pure_plan-only sets choices plan order are p f =
     let q = pure_plan-is_plan sets choices order are in
     ext_get_or 0 plan (pure_plan sets choices) (p.all_sequences ∙ sym q.all_sequences)
     (λ s low. agree 1 plan (pure_plan sets choices) sets choices order f (pure_plan-follows sets choices order are)
-    (λ t first. let none : t ≡ 0 = omega arith in ap (λ k. slice_index plan k) none ∙ p.root_weight ∙ sym (ap (λ k. slice_index (pure_plan sets choices) k) none ∙ q.root_weight))
+    (λ t first. let none : t ≡ 0 = omega arith in ap (λ k. slice_index plan k) none ∙ p.root_weight
+    ∙ sym (ap (λ k. slice_index (pure_plan sets choices) k) none ∙ q.root_weight))
     s (omega (arith, p.all_sequences)))

@@ -38,7 +38,8 @@ dealt_onto-is_dealt first x (h ∷ hs) (rule ∷ rules) e order whole =
     λ s below. rest.kept s (omega arith) ∙ get_or_append_left x (rule n) 0 s (omega arith)
     in
     let at_here : AddsUp r here =
-    nat_sum_over-same (λ s. slice_index r s) (λ s. slice_index x' s) (sequences_of here) (All-range (λ s. slice_index r s ≡ slice_index x' s) first h.actions (λ s low high. rest.kept s high))
+    nat_sum_over-same (λ s. slice_index r s) (λ s. slice_index x' s) (sequences_of here)
+    (All-range (λ s. slice_index r s ≡ slice_index x' s) first h.actions (λ s low high. rest.kept s high))
     ∙ ap (λ k. nat_sum_over (λ s. slice_index x' s) (range_with_len first k)) (sym parts)
     ∙ nat_sum_over-places x (rule n) first e
     ∙ whole.0.adds_up n

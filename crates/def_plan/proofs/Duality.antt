@@ -100,7 +100,9 @@ weak_duality_lem player sums sets values root x h plan =
     let w : ℕ → ℤ = worth sums (placed sets) values in
     no_better-cancel player _ _ _ _ (two_orders sums sets values root x plan)
     (at_each (IsNoBetter player) (no_better-zero player) (no_better-add player) w x (placed sets) values
-    (AllZip-weaker _ _ (λ g v all. All-weaker (λ s. IsNoBetter player (w s) v) (λ s. IsNoBetter player (w s *ℤ pos (slice_index x s)) (v *ℤ pos (slice_index x s))) (λ s. no_better-times player (slice_index x s) (w s) v) (sequences_of g) all) (placed sets) values h)
+    (AllZip-weaker _ _ (λ g v all. All-weaker (λ s. IsNoBetter player (w s) v)
+    (λ s. IsNoBetter player (w s *ℤ pos (slice_index x s)) (v *ℤ pos (slice_index x s))) (λ s. no_better-times player (slice_index x s) (w s) v)
+    (sequences_of g) all) (placed sets) values h)
     plan.each_set)
 
 same_times : (n : ℕ) (a b : ℤ) → (0 < n → a ≡ b) → a *ℤ pos n ≡ b *ℤ pos n
@@ -115,7 +117,8 @@ complementary_slackness_lem sums sets values root x h plan =
     let w : ℕ → ℤ = worth sums (placed sets) values in
     let sides : at_sets w x (placed sets) ≡ of_values x (placed sets) values =
     at_each (λ a b. a ≡ b) refl (λ a b c d e f. ap (λ z. z +ℤ c) e ∙ ap (λ z. b +ℤ z) f) w x (placed sets) values
-    (AllZip-weaker _ _ (λ g v all. All-weaker (λ s. 0 < slice_index x s → w s ≡ v) (λ s. w s *ℤ pos (slice_index x s) ≡ v *ℤ pos (slice_index x s)) (λ s. same_times (slice_index x s) (w s) v) (sequences_of g) all) (placed sets) values h)
+    (AllZip-weaker _ _ (λ g v all. All-weaker (λ s. 0 < slice_index x s → w s ≡ v) (λ s. w s *ℤ pos (slice_index x s) ≡ v *ℤ pos (slice_index x s))
+    (λ s. same_times (slice_index x s) (w s) v) (sequences_of g) all) (placed sets) values h)
     plan.each_set
     in
     let orders = two_orders sums sets values root x plan in

@@ -34,7 +34,12 @@ pub after-hanging : (s first next : ℕ) (zs : List (PlacedSet × ℤ)) → firs
     → hanging_size s zs + hanging first zs ≤ hanging next zs
 after-hanging s first next [] low high = omega arith
 after-hanging s first next (p ∷ ps) low high =
-    omega (arith, kept (eqb p.0.before s) p (filter (λ q. eqb q.0.before s) ps), at_one p.0.before s first next (size p) low high, after-hanging s first next ps low high)
+    omega (
+      arith,
+      kept (eqb p.0.before s) p (filter (λ q. eqb q.0.before s) ps),
+      at_one p.0.before s first next (size p) low high,
+      after-hanging s first next ps low high,
+    )
 
 -- what hangs on a sequence doesn't count at a later one
 pub not_here : (b s v n : ℕ) → b < s → cond (eqb b s) v 0 + n ≡ n

@@ -14,7 +14,8 @@ tested first (h ∷ hs) e =
     let here : PlacedSet = record { first = first; before = h.before; actions = h.actions } in
     let parts = and_parts (leb 1 h.actions && ltb h.before first) (in_order_from (first + h.actions) hs) e in
     let both = and_parts (leb 1 h.actions) (ltb h.before first) parts.0 in
-    All-cons IsInOrder here (placed_from (first + h.actions) hs) (leb-true 1 h.actions both.0, ltb-true h.before first both.1) (tested (first + h.actions) hs parts.1)
+    All-cons IsInOrder here (placed_from (first + h.actions) hs) (leb-true 1 h.actions both.0, ltb-true h.before first both.1)
+    (tested (first + h.actions) hs parts.1)
 
 -- sets that pass the test are in order
 pub in_order-tested : (sets : List InformationSet) → in_order_from 1 sets ≡ true → AreInOrder sets

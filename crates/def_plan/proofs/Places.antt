@@ -30,7 +30,8 @@ at-placed first (a ∷ hs) zero h g low =
     ap (λ n. record { first = n; before = a.before; actions = a.actions }) here
 at-placed first (a ∷ hs) (suc k) h g low =
     let later : first + a.actions + total_actions (take k hs) ≡ first + (a.actions + total_actions (take k hs)) = omega arith in
-    at-placed (first + a.actions) hs k h g (omega arith) ∙ ap (λ n. record { first = n; before = (get_or hs k g).before; actions = (get_or hs k g).actions }) later
+    at-placed (first + a.actions) hs k h g (omega arith) ∙ ap (λ n. record { first = n; before = (get_or hs k g).before; actions = (get_or hs k g).actions })
+    later
 
 pub drop-placed : (first k : ℕ) (hs : List InformationSet)
     → drop k (placed_from first hs) ≡ placed_from (first + total_actions (take k hs)) (drop k hs)

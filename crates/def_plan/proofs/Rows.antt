@@ -46,7 +46,8 @@ in_row_of_two form numbers_one numbers_two leaves s =
 pub player_rows_are_leaf_sums : PlayerRowsAreLeafSums
 player_rows_are_leaf_sums form player against = record {
   count = length-map-range_with_len (leaf_sum player form.leaves against) 0 (sequence_count (player_sets form player));
-  each_row = λ s below. get_or-map-range_with_len (leaf_sum player form.leaves against) 0 (sequence_count (player_sets form player)) s s (pos 0) below (omega arith);
+  each_row = λ s below. get_or-map-range_with_len (leaf_sum player form.leaves against) 0 (sequence_count (player_sets form player)) s s (pos 0) below
+      (omega arith);
 }
 
 -- first player one's sequences, then player two's, each row with the leaf sum of its sequence

@@ -1,5 +1,6 @@
 -- A dealt plan follows its rules, and alone does.
-use Rattle.std.proofs.Common.{◌≡◌, ℕ, ◌+◌, ◌-◌, ◌≤◌, ◌<◌, List, [], ◌∷◌, ◌++◌, map, length, slice_index, get_or, All, arith, ap, sym, ◌∙◌, refl, ⊎_elim, length-append}
+use Rattle.std.proofs.Common.{◌≡◌, ℕ, ◌+◌, ◌-◌, ◌≤◌, ◌<◌, List, [], ◌∷◌, ◌++◌, map, length, slice_index, get_or, All, arith, ap, sym, ◌∙◌, refl, ⊎_elim}
+use Rattle.std.proofs.Common.{length-append}
 use Rattle.std.specs.List.{range_with_len, AllZip}
 use Rattle.std.proofs.lemmas.Bool.{cases_lt}
 use Rattle.std.proofs.lemmas.List.{get_or_append_left, get_or-append-add, ext_get_or}
@@ -78,5 +79,6 @@ dealt-only sets root rules plan order whole p f =
     let made = dealt_onto-is_dealt 1 (root ∷ []) sets rules refl order whole in
     ext_get_or 0 plan (dealt root sets rules) (p.all_sequences ∙ sym made.long)
     (λ s low. agree 1 plan (dealt root sets rules) sets rules order f (dealt-follows sets root rules order whole)
-    (λ t first. let none : t ≡ 0 = omega arith in ap (λ k. slice_index plan k) none ∙ p.root_weight ∙ sym (ap (λ k. slice_index (dealt root sets rules) k) none ∙ made.kept 0 (omega arith)))
+    (λ t first. let none : t ≡ 0 = omega arith in ap (λ k. slice_index plan k) none ∙ p.root_weight
+    ∙ sym (ap (λ k. slice_index (dealt root sets rules) k) none ∙ made.kept 0 (omega arith)))
     s (omega (arith, p.all_sequences)))

@@ -35,7 +35,8 @@ below root first x (g ∷ gs) order sums h s low =
     let adds = All-head (AddsUp x) here rest sums in
     let at_before : slice_index x g.before ≤ root = h g.before ordered.1 in
     below root (first + g.actions) x gs (All-tail IsInOrder here rest order) (All-tail (AddsUp x) here rest sums)
-    (λ t less. ⊎_elim (λ earlier. h t earlier) (λ at. let one_of = at_most_sum (λ s. slice_index x s) first g.actions t at less in omega arith) (cases_lt t first))
+    (λ t less. ⊎_elim (λ earlier. h t earlier) (λ at. let one_of = at_most_sum (λ s. slice_index x s) first g.actions t at less in omega arith)
+    (cases_lt t first))
     s (omega arith)
 
 -- no number of a plan is greater than its root
@@ -43,7 +44,8 @@ pub plan-below_root : (sets : List InformationSet) (root : ℕ) (x : List ℕ) �
     → (s : ℕ) → slice_index x s ≤ root
 plan-below_root sets root x order p s =
     ⊎_elim
-    (λ low. below root 1 x sets order p.each_set (λ t first. let none : t ≡ 0 = omega arith in omega (arith, p.root_weight, ap (λ k. slice_index x k) none)) s low)
+    (λ low. below root 1 x sets order p.each_set (λ t first. let none : t ≡ 0 = omega arith in omega (arith, p.root_weight, ap (λ k. slice_index x k) none)) s
+    low)
     (λ past. omega (arith, get_or_past x s 0 (omega (arith, p.all_sequences))))
     (cases_lt s (sequence_count sets))
 
@@ -65,12 +67,14 @@ leaf_sums-below player leaves sets against_sets root x order p =
       arith,
       unsigned_abs-sum_over amount kept,
       nat_sum_over-mono (λ z. unsigned_abs (amount z)) size kept
-          (λ k d low. let z : Leaf = get_or kept k d in one_leaf z.weight (slice_index x (leaf_sequence (opponent player) z)) root (plan-below_root against_sets root x order p (leaf_sequence (opponent player) z))),
+          (λ k d low. let z : Leaf = get_or kept k d in one_leaf z.weight (slice_index x (leaf_sequence (opponent player) z)) root
+          (plan-below_root against_sets root x order p (leaf_sequence (opponent player) z))),
     )
     in
     omega (
       arith,
-      nat_sum_over-mono (λ s. unsigned_abs (leaf_sum player leaves x s)) (λ s. nat_sum_over size (filter (λ z. eqb (leaf_sequence player z) s) leaves)) (sequences sets) (λ k d low. of_one (get_or (sequences sets) k d)),
+      nat_sum_over-mono (λ s. unsigned_abs (leaf_sum player leaves x s)) (λ s. nat_sum_over size (filter (λ z. eqb (leaf_sequence player z) s) leaves))
+          (sequences sets) (λ k d low. of_one (get_or (sequences sets) k d)),
       nat_gathered (leaf_sequence player) size 0 (sequence_count sets) leaves,
       nat_sum_over-factor root (λ z. unsigned_abs z.weight) leaves,
     )

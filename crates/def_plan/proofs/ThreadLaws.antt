@@ -1,5 +1,6 @@
 -- The threads of leaves list the leaves of each sequence.
-use Rattle.std.proofs.Common.{◌≡◌, ℕ, zero, suc, ◌+◌, ◌-◌, ◌<◌, ◌≤◌, Bool, true, false, cond, eqb, List, [], ◌∷◌, length, map, filter, drop, refl, ap, sym, subst, ◌∙◌, arith, ⊎_elim, eqb-true, eq-eqb, Option, Some, slice_get}
+use Rattle.std.proofs.Common.{◌≡◌, ℕ, zero, suc, ◌+◌, ◌-◌, ◌<◌, ◌≤◌, Bool, true, false, cond, eqb, List, [], ◌∷◌, length, map, filter, drop, refl, ap, sym}
+use Rattle.std.proofs.Common.{subst, ◌∙◌, arith, ⊎_elim, eqb-true, eq-eqb, Option, Some, slice_get}
 use Rattle.std.specs.Prelude.{Contains, slice_index}
 use Rattle.std.specs.List.Sorted.{IsStrictlyIncreasing}
 use Rattle.std.proofs.lemmas.Bool.{cases_eq}
@@ -64,7 +65,8 @@ followed : (player : Player) (s z : ℕ) (leaves : List Leaf) (j : ℕ) → j < 
 followed player s z [] j below = absurd (omega arith)
 followed player s z (x ∷ xs) j below = by_test (λ i inside. followed player s (z + 1) xs i inside) (eqb (leaf_sequence player x) s) refl j below
   where
-    by_test : ((i : ℕ) → i < length (leaf_numbers_from player s (z + 1) xs) → IsFollowed player s (z + 1) xs (slice_index (leaf_numbers_from player s (z + 1) xs) i) (slice_get (leaf_numbers_from player s (z + 1) xs) (i + 1)))
+    by_test : ((i : ℕ) → i < length (leaf_numbers_from player s (z + 1) xs)
+        → IsFollowed player s (z + 1) xs (slice_index (leaf_numbers_from player s (z + 1) xs) i) (slice_get (leaf_numbers_from player s (z + 1) xs) (i + 1)))
         → (b : Bool) → eqb (leaf_sequence player x) s ≡ b → (j : ℕ) → j < length (with_first b player s z x xs)
         → IsFollowed player s z (x ∷ xs) (slice_index (with_first b player s z x xs) j) (slice_get (with_first b player s z x xs) (j + 1))
     by_test behind true e zero below = followed_first player s z x xs (eqb-true (leaf_sequence player x) s e)
@@ -105,7 +107,8 @@ found player s z (x ∷ xs) n low high own =
     (λ apart.
     let next : z + 1 ≤ n = beyond apart in
     let place : n - z ≡ suc (n - (z + 1)) = omega arith in
-    later (found player s (z + 1) xs n next (omega arith) (sym (ap (slice_index (map (leaf_sequence player) (x ∷ xs))) place) ∙ own)) (eqb (leaf_sequence player x) s))
+    later (found player s (z + 1) xs n next (omega arith) (sym (ap (slice_index (map (leaf_sequence player) (x ∷ xs))) place) ∙ own))
+    (eqb (leaf_sequence player x) s))
     (cases_eq n z)
   where
     beyond : (n ≡ z → ⊥) → z + 1 ≤ n

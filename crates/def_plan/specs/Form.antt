@@ -23,7 +23,8 @@ pub record PlacedSet : Type 0 where
 -- the sets one after the other, where the next sequence has the number `first`
 abbrev pub placed_from : ℕ → List InformationSet → List PlacedSet
 placed_from first [] = []
-placed_from first (h ∷ hs) = record { first = first; before = h.before; actions = h.actions } ∷ placed_from (first + h.actions) hs
+placed_from first (h ∷ hs) = record { first = first; before = h.before; actions = h.actions }
+    ∷ placed_from (first + h.actions) hs
 
 abbrev pub placed : List InformationSet → List PlacedSet
 placed sets = placed_from 1 sets
@@ -55,7 +56,11 @@ pub record Leaf : Type 0 where
 
 -- a leaf by both players' sequences and its weight
 abbrev pub weighted : ℕ → ℕ → ℤ → Leaf
-weighted sequence_one sequence_two weight = record { sequence_one = sequence_one; sequence_two = sequence_two; weight = weight }
+weighted sequence_one sequence_two weight = record {
+  sequence_one = sequence_one;
+  sequence_two = sequence_two;
+  weight = weight;
+}
 
 pub record SequenceForm : Type 0 where
   pub sets_one : List InformationSet

@@ -43,12 +43,15 @@ abbrev pub kuhn : SequenceForm
 kuhn = record {
   sets_one = sets_of_one;
   sets_two = sets_of_two;
-  leaves = leaves_of_deal 1 2 ++ (leaves_of_deal 1 3 ++ (leaves_of_deal 2 1 ++ (leaves_of_deal 2 3 ++ (leaves_of_deal 3 1 ++ leaves_of_deal 3 2))));
+  leaves = leaves_of_deal 1 2 ++ (leaves_of_deal 1 3 ++ (leaves_of_deal 2 1
+      ++ (leaves_of_deal 2 3 ++ (leaves_of_deal 3 1 ++ leaves_of_deal 3 2))));
 }
 
 -- the plans of the first round, which deal 2 ^ 20 evenly
 abbrev pub even_one : List ℕ
-even_one = 1048576 ∷ 524288 ∷ 524288 ∷ 262144 ∷ 262144 ∷ 524288 ∷ 524288 ∷ 262144 ∷ 262144 ∷ 524288 ∷ 524288 ∷ 262144 ∷ 262144 ∷ []
+even_one = 1048576 ∷ 524288 ∷ 524288 ∷ 262144 ∷ 262144 ∷ 524288 ∷ 524288 ∷ 262144 ∷ 262144 ∷ 524288 ∷ 524288 ∷ 262144
+    ∷ 262144 ∷ []
 
 abbrev pub even_two : List ℕ
-even_two = 1048576 ∷ 524288 ∷ 524288 ∷ 524288 ∷ 524288 ∷ 524288 ∷ 524288 ∷ 524288 ∷ 524288 ∷ 524288 ∷ 524288 ∷ 524288 ∷ 524288 ∷ []
+even_two = 1048576 ∷ 524288 ∷ 524288 ∷ 524288 ∷ 524288 ∷ 524288 ∷ 524288 ∷ 524288 ∷ 524288 ∷ 524288 ∷ 524288 ∷ 524288
+    ∷ 524288 ∷ []

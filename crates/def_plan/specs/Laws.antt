@@ -1,12 +1,15 @@
 -- What holds of plans. Each is the contract of a function of this crate.
-use Rattle.std.specs.Prelude.{◌≡◌, ℕ, ◌+◌, ◌*◌, ◌≤◌, ◌<◌, ◌↔◌, List, ◌∷◌, length, take, flat_map, replicate, slice_index, slice_index_or, ℤ, pos, ◌*ℤ◌, unsigned_abs, Some, None}
+use Rattle.std.specs.Prelude.{◌≡◌, ℕ, ◌+◌, ◌*◌, ◌≤◌, ◌<◌, ◌↔◌, List, ◌∷◌, length, take, flat_map, replicate}
+use Rattle.std.specs.Prelude.{slice_index, slice_index_or, ℤ, pos, ◌*ℤ◌, unsigned_abs, Some, None}
 use Rattle.std.specs.List.{AllZip}
 use Rattle.def_tree.specs.declared.Player.{Player}
 use Rattle.def_tree.specs.declared.Player.TheVariants.{One, Two}
 use Rattle.def_sums.specs.Sum.{nat_sum_over}
 use Rattle.def_sums.specs.Limits.{most_mass, most_scale, most_root, most_round_row, most_row}
-use Rattle.def_plan.specs.Form.{InformationSet, PlacedSet, placed, sequences_of, sequence_count, sequences, AreInOrder, Leaf}
-use Rattle.def_plan.specs.Plan.{IsPlan, cleared, IsPlanOrCleared, dealt, DealsWhole, FollowsRules, AreActions, FollowsChoices, pure_plan, added, bad_set, IsBadSet}
+use Rattle.def_plan.specs.Form.{InformationSet, PlacedSet, placed, sequences_of, sequence_count, sequences, AreInOrder}
+use Rattle.def_plan.specs.Form.{Leaf}
+use Rattle.def_plan.specs.Plan.{IsPlan, cleared, IsPlanOrCleared, dealt, DealsWhole, FollowsRules, AreActions}
+use Rattle.def_plan.specs.Plan.{FollowsChoices, pure_plan, added, bad_set, IsBadSet}
 use Rattle.def_plan.specs.Payoff.{pay, leaf_sum, gain, worth, mass_of, IsNoBetter, NoActionIsBetter, PlaysOnlyTight}
 
 -- the empty sequence and then those of each set in turn are all sequences, and a set's place tells its first one
@@ -14,7 +17,11 @@ pub record SequencesAreNumbered : Type 0 where
   pub in_turn : (sets : List InformationSet) → sequences sets ≡ 0 ∷ flat_map sequences_of (placed sets)
   pub each_set : (sets : List InformationSet) (k : ℕ) (h : PlacedSet) (g : InformationSet) → k < length sets
       → let set = slice_index_or sets k g in
-      slice_index_or (placed sets) k h ≡ record { first = 1 + nat_sum_over (λ s. s.actions) (take k sets); before = set.before; actions = set.actions }
+      slice_index_or (placed sets) k h ≡ record {
+        first = 1 + nat_sum_over (λ s. s.actions) (take k sets);
+        before = set.before;
+        actions = set.actions;
+      }
 
 -- rules that deal each number whole make a plan of the root that they begin with, which follows them, and alone does
 pub record DealingMakesPlans : Type 0 where

@@ -1,5 +1,7 @@
 -- Realisation plans in whole numbers (von Stengel 1996).
-use Rattle.std.specs.Prelude.{◌≡◌, ℕ, zero, suc, ◌+◌, ◌-◌, ◌≤◌, ◌<◌, nat_le, List, [], ◌∷◌, ◌++◌, map, length, take, replicate, slice_index, slice_index_or, All, zip, ◌==◌, ◌&&◌, if◌then◌else◌, Option, Some, None}
+use Rattle.std.specs.Prelude.{◌≡◌, ℕ, zero, suc, ◌+◌, ◌-◌, ◌≤◌, ◌<◌, nat_le, List, [], ◌∷◌, ◌++◌, map, length, take}
+use Rattle.std.specs.Prelude.{replicate, slice_index, slice_index_or, All, zip, ◌==◌, ◌&&◌, if◌then◌else◌, Option, Some}
+use Rattle.std.specs.Prelude.{None}
 use Rattle.std.specs.List.{range_with_len, AllZip}
 use Rattle.def_sums.specs.Sum.{nat_sum_over}
 use Rattle.def_plan.specs.Form.{InformationSet, PlacedSet, placed, sequences_of, sequence_count}
@@ -43,7 +45,8 @@ pub record DealsWhole (h : InformationSet) (rule : ℕ → List ℕ) : Type 0 wh
 -- at each set the sequences have the numbers that its rule makes of the number of the sequence before it
 abbrev pub FollowsRules : List InformationSet → List (ℕ → List ℕ) → List ℕ → Type 0
 FollowsRules sets rules plan =
-    AllZip (λ h rule. map (λ s. slice_index plan s) (sequences_of h) ≡ rule (slice_index plan h.before)) (placed sets) rules
+    AllZip (λ h rule. map (λ s. slice_index plan s) (sequences_of h) ≡ rule (slice_index plan h.before)) (placed sets)
+    rules
 
 -- the rule that gives all to one action, counted from 1
 abbrev pub all_to : ℕ → ℕ → ℕ → List ℕ
@@ -60,7 +63,8 @@ chosen h choice = h.first + (choice - 1)
 -- at each set the chosen sequence has the whole number of the sequence before the set, and the others have none of it
 abbrev pub FollowsChoices : List InformationSet → List ℕ → List ℕ → Type 0
 FollowsChoices sets choices plan =
-    AllZip (λ h choice. All (λ s. slice_index plan s ≡ (if s == chosen h choice then slice_index plan h.before else 0)) (sequences_of h)) (placed sets) choices
+    AllZip (λ h choice. All (λ s. slice_index plan s ≡ (if s == chosen h choice then slice_index plan h.before else 0))
+    (sequences_of h)) (placed sets) choices
 
 -- the plan of root 1 that follows one choice at each set
 abbrev pub pure_plan : List InformationSet → List ℕ → List ℕ
@@ -80,16 +84,19 @@ pub record HasRoot (sets : List InformationSet) (root : ℕ) (plan : List ℕ) :
 abbrev pub first_not_adding : List ℕ → ℕ → List PlacedSet → Option ℕ
 first_not_adding plan k [] = None
 first_not_adding plan k (h ∷ hs) =
-    (if nat_sum_over (λ s. slice_index plan s) (sequences_of h) == slice_index plan h.before then first_not_adding plan (k + 1) hs else Some k)
+    (if nat_sum_over (λ s. slice_index plan s) (sequences_of h) == slice_index plan h.before then first_not_adding plan
+    (k + 1) hs else Some k)
 
 -- what keeps a list from being a plan: 0 where it has no such root,
 -- else the first set at which its numbers don't add up, counted from 1
 abbrev pub bad_set : List InformationSet → ℕ → List ℕ → Option ℕ
 bad_set sets root plan =
-    (if length plan == sequence_count sets && (nat_le 1 root && slice_index plan 0 == root) then first_not_adding plan 1 (placed sets) else Some 0)
+    (if length plan == sequence_count sets && (nat_le 1 root && slice_index plan 0 == root) then first_not_adding plan 1
+    (placed sets) else Some 0)
 
 -- the same in words
 abbrev pub IsBadSet : List InformationSet → ℕ → List ℕ → ℕ → Type 0
 IsBadSet sets root plan zero = ¬ (HasRoot sets root plan)
 IsBadSet sets root plan (suc k) =
-    HasRoot sets root plan × (k < length sets) × All (AddsUp plan) (take k (placed sets)) × ((h : PlacedSet) → ¬ (AddsUp plan (slice_index_or (placed sets) k h)))
+    HasRoot sets root plan × (k < length sets) × All (AddsUp plan) (take k (placed sets))
+    × ((h : PlacedSet) → ¬ (AddsUp plan (slice_index_or (placed sets) k h)))

@@ -38,4 +38,5 @@ LeafSumsAddAmounts = (player : Player) (leaves : List Leaf) (against : List ℕ)
 -- and so is each row
 abbrev pub RowsAddAmounts : Type 0
 RowsAddAmounts = (form : SequenceForm) (numbers_one numbers_two : List ℕ) (row : ℕ) → row < row_count form
-    → sum_over (λ z. amount_in_row form numbers_one numbers_two z row) form.leaves ≡ slice_index_or (rows form numbers_one numbers_two) row (pos 0)
+    → sum_over (λ z. amount_in_row form numbers_one numbers_two z row) form.leaves
+    ≡ slice_index_or (rows form numbers_one numbers_two) row (pos 0)

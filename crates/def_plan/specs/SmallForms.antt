@@ -11,7 +11,8 @@ abbrev pub one_mover : SequenceForm
 one_mover = record {
   sets_one = record { before = 0; actions = 2 } ∷ [];
   sets_two = [];
-  leaves = record { sequence_one = 1; sequence_two = 0; weight = pos 1 } ∷ record { sequence_one = 2; sequence_two = 0; weight = pos 0 } ∷ [];
+  leaves = record { sequence_one = 1; sequence_two = 0; weight = pos 1 }
+      ∷ record { sequence_one = 2; sequence_two = 0; weight = pos 0 } ∷ [];
 }
 
 -- the leaves of a game in which chance, at the root, either ends it or lets one player or the other begin; who begins

@@ -43,8 +43,8 @@ leaf_numbers_from player sequence z leaves =
 abbrev pub leaf_numbers : Player → ℕ → List Leaf → List ℕ
 leaf_numbers player sequence leaves = leaf_numbers_from player sequence 1 leaves
 
--- from the first leaf of a sequence on, each next one after the other, these are all leaves that have the sequence, each
--- once, in rising order
+-- from the first leaf of a sequence on, each next one after the other, these are all leaves that have the sequence,
+-- each once, in rising order
 pub record AreThreads (player : Player) (sequence : ℕ) (leaves : List Leaf) : Type 0 where
   pub first : first_leaf player sequence leaves ≡ slice_get (leaf_numbers player sequence leaves) 0
   pub next : (j : ℕ) → j < length (leaf_numbers player sequence leaves)

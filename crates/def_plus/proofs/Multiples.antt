@@ -110,7 +110,8 @@ pub times-is_plan : (sets : List InformationSet) (root other_root : ℕ) (sum pl
     → IsPlan sets (root + times * other_root) (added_times sum plan times)
 times-is_plan sets root other_root sum plan zero p q =
     let same : root + 0 * other_root ≡ root = omega arith in
-    subst (λ r. IsPlan sets r (added_times sum plan 0)) (sym same) (subst (IsPlan sets root) (sym (not_once sum plan (p.all_sequences ∙ sym q.all_sequences))) p)
+    subst (λ r. IsPlan sets r (added_times sum plan 0)) (sym same) (subst (IsPlan sets root) (sym (not_once sum plan (p.all_sequences ∙ sym q.all_sequences)))
+    p)
 times-is_plan sets root other_root sum plan (suc times) p q =
     added-is_plan sets root (suc times * other_root) sum (multiple (suc times) plan) p (multiple-is_plan sets other_root plan (suc times) (omega arith) q)
 

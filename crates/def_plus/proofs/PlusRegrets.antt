@@ -40,14 +40,16 @@ plus_regrets_are_not_negative form root (suc n) =
 -- one more round, whose plan of the other player has this root
 one_round : (player : Player) (leaves : List Leaf) (sets against_sets : List InformationSet) (regrets against_regrets : List ℤ) (root so_far : ℕ)
     → AreInOrder sets → AreInOrder against_sets → 1 ≤ root → ((s : ℕ) → unsigned_abs (regret_of regrets s) ≤ so_far)
-    → (s : ℕ) → unsigned_abs (regret_of (cut (regrets_after (own_sum player leaves (plan_of_play against_sets (play_of against_sets against_regrets) root)) (play_of sets regrets) sets regrets)) s) ≤ so_far + mass_of leaves * root
+    → (s : ℕ) → unsigned_abs (regret_of (cut (regrets_after (own_sum player leaves (plan_of_play against_sets (play_of against_sets against_regrets) root))
+    (play_of sets regrets) sets regrets)) s) ≤ so_far + mass_of leaves * root
 one_round player leaves sets against_sets regrets against_regrets root so_far order against_order some small s =
     let plan : List ℕ = plan_of_play against_sets (play_of against_sets against_regrets) root in
     let after : List ℤ = regrets_after (own_sum player leaves plan) (play_of sets regrets) sets regrets in
     omega (
       arith,
       size-cut after s,
-      regrets_grow_by_the_sums (own_sum player leaves plan) (play_of sets regrets) sets regrets so_far (mass_of leaves * root) order (plays_all_units sets regrets order)
+      regrets_grow_by_the_sums (own_sum player leaves plan) (play_of sets regrets) sets regrets so_far (mass_of leaves * root) order
+          (plays_all_units sets regrets order)
           (own_sums_small player leaves sets against_sets root plan against_order (next_plan-is against_sets against_regrets root against_order some)) small s,
     )
 
@@ -63,9 +65,11 @@ within form root (suc n) order_one order_two some =
     let more : n * bound + bound ≡ suc n * bound = omega arith in
     record {
       of_one = λ s. subst (λ b. unsigned_abs (regret_of (plus_rounds form root (suc n)).regrets_one s) ≤ b) more
-          (one_round One form.leaves form.sets_one form.sets_two (plus_rounds form root n).regrets_one (plus_rounds form root n).regrets_two root (n * bound) order_one order_two some so_far.of_one s);
+          (one_round One form.leaves form.sets_one form.sets_two (plus_rounds form root n).regrets_one (plus_rounds form root n).regrets_two root (n * bound)
+          order_one order_two some so_far.of_one s);
       of_two = λ s. subst (λ b. unsigned_abs (regret_of (plus_rounds form root (suc n)).regrets_two s) ≤ b) more
-          (one_round Two form.leaves form.sets_two form.sets_one (plus_rounds form root n).regrets_two (plus_rounds form root n).regrets_one root (n * bound) order_two order_one some so_far.of_two s);
+          (one_round Two form.leaves form.sets_two form.sets_one (plus_rounds form root n).regrets_two (plus_rounds form root n).regrets_one root (n * bound)
+          order_two order_one some so_far.of_two s);
     }
 
 -- cut regrets grow no faster than others
@@ -74,6 +78,7 @@ plus_regrets_are_small = record {
   by_rounds = within;
   within_limits = λ form root n order_one order_two some limits.
       let slow = within form root n order_one order_two some in
-      let most : n * (mass_of form.leaves * root) ≤ n * most_round_row = mul-le-mul_left n (of_a_round form.leaves root limits.small_mass (omega (arith, limits.small_root))) in
+      let most : n * (mass_of form.leaves * root) ≤ n * most_round_row = mul-le-mul_left n
+      (of_a_round form.leaves root limits.small_mass (omega (arith, limits.small_root))) in
       record { of_one = λ s. omega (arith, slow.of_one s, most); of_two = λ s. omega (arith, slow.of_two s, most) };
 }

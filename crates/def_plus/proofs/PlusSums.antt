@@ -109,8 +109,10 @@ pub sums_weigh_the_plans : SumsWeighThePlans
 sums_weigh_the_plans form One root zero s order_one order_two some = zeros (sequence_count form.sets_one) s
 sums_weigh_the_plans form One root (suc n) s order_one order_two some =
     grown form.sets_one (plus_rounds form root n).regrets_one root n s (plus_rounds form root n).sum_one (plan_after form One root) order_one some
-    (length-sum form.sets_one (total_weight n * root) (plus_rounds form root n).sum_one (are_sums form root n order_one order_two some).of_one) refl (sums_weigh_the_plans form One root n s order_one order_two some)
+    (length-sum form.sets_one (total_weight n * root) (plus_rounds form root n).sum_one (are_sums form root n order_one order_two some).of_one) refl
+    (sums_weigh_the_plans form One root n s order_one order_two some)
 sums_weigh_the_plans form Two root zero s order_one order_two some = zeros (sequence_count form.sets_two) s
 sums_weigh_the_plans form Two root (suc n) s order_one order_two some =
     grown form.sets_two (plus_rounds form root n).regrets_two root n s (plus_rounds form root n).sum_two (plan_after form Two root) order_two some
-    (length-sum form.sets_two (total_weight n * root) (plus_rounds form root n).sum_two (are_sums form root n order_one order_two some).of_two) refl (sums_weigh_the_plans form Two root n s order_one order_two some)
+    (length-sum form.sets_two (total_weight n * root) (plus_rounds form root n).sum_two (are_sums form root n order_one order_two some).of_two) refl
+    (sums_weigh_the_plans form Two root n s order_one order_two some)

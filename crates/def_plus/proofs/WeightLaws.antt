@@ -22,7 +22,8 @@ doubled zero = refl
 doubled (suc n) =
     let before = doubled n in
     let next = one_more (λ k. k) n in
-    let same : nat_sum_over (λ k. k) (range_with_len 1 (suc n)) ≡ nat_sum_over (λ k. k) (range_with_len 1 (n + 1)) = ap (λ m. nat_sum_over (λ k. k) (range_with_len 1 m)) (sym (add-one n)) in
+    let same : nat_sum_over (λ k. k) (range_with_len 1 (suc n)) ≡ nat_sum_over (λ k. k) (range_with_len 1 (n + 1)) = ap
+    (λ m. nat_sum_over (λ k. k) (range_with_len 1 m)) (sym (add-one n)) in
     omega (arith, before, next, same)
 
 as_sum : (n : ℕ) → total_weight n ≡ nat_sum_over (λ k. k) (range_with_len 1 n)

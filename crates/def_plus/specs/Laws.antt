@@ -19,7 +19,8 @@ pub record CutRegretsAreExact : Type 0 where
   pub all_sequences : (regrets : List ℤ) → length (cut regrets) ≡ length regrets
   pub greater : (regrets : List ℤ) (s : ℕ) → regret_of (cut regrets) s ≡ int_max (pos 0) (regret_of regrets s)
   pub negative : (regrets : List ℤ) (s : ℕ) → regret_of regrets s ≤ℤ pos 0 → regret_of (cut regrets) s ≡ pos 0
-  pub others : (regrets : List ℤ) (s : ℕ) → pos 0 ≤ℤ regret_of regrets s → regret_of (cut regrets) s ≡ regret_of regrets s
+  pub others : (regrets : List ℤ) (s : ℕ) → pos 0 ≤ℤ regret_of regrets s → regret_of (cut regrets) s
+      ≡ regret_of regrets s
   pub sizes : (regrets : List ℤ) (s : ℕ) → unsigned_abs (regret_of (cut regrets) s) ≤ unsigned_abs (regret_of regrets s)
   pub same_play : (sets : List InformationSet) (regrets : List ℤ) → play_of sets (cut regrets) ≡ play_of sets regrets
 
@@ -39,7 +40,8 @@ pub record SumsOfMultiplesArePlans : Type 0 where
   pub is_plan : (sets : List InformationSet) (root other_root : ℕ) (sum plan : List ℕ) (times : ℕ)
       → IsPlan sets root sum → IsPlan sets other_root plan
       → IsPlan sets (root + times * other_root) (added_times sum plan times)
-  pub multiples : (sets : List InformationSet) (root : ℕ) (plan : List ℕ) (times : ℕ) → 1 ≤ times → IsPlan sets root plan
+  pub multiples : (sets : List InformationSet) (root : ℕ) (plan : List ℕ) (times : ℕ) → 1 ≤ times
+      → IsPlan sets root plan
       → IsPlan sets (times * root) (multiple times plan)
   pub cleared_plan : (sets : List InformationSet) (sum : List ℕ) (times : ℕ) → length sum ≡ sequence_count sets
       → added_times sum (cleared sets) times ≡ sum

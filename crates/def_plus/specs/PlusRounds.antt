@@ -25,11 +25,13 @@ plus_round_with form weight before play_one play_two plan_one plan_two =
 -- both plans are made from the regrets as they stand
 abbrev pub plus_round_by_play : SequenceForm → ℕ → ℕ → Standing → List ℕ → List ℕ → Standing
 plus_round_by_play form root weight before play_one play_two =
-    plus_round_with form weight before play_one play_two (plan_of_play form.sets_one play_one root) (plan_of_play form.sets_two play_two root)
+    plus_round_with form weight before play_one play_two (plan_of_play form.sets_one play_one root)
+    (plan_of_play form.sets_two play_two root)
 
 abbrev pub next_plus_round : SequenceForm → ℕ → ℕ → Standing → Standing
 next_plus_round form root weight before =
-    plus_round_by_play form root weight before (play_of form.sets_one before.regrets_one) (play_of form.sets_two before.regrets_two)
+    plus_round_by_play form root weight before (play_of form.sets_one before.regrets_one)
+    (play_of form.sets_two before.regrets_two)
 
 -- the standing after a number of rounds with plans of a root
 abbrev pub plus_rounds : SequenceForm → ℕ → ℕ → Standing
@@ -38,8 +40,10 @@ plus_rounds form root (suc n) = next_plus_round form root (suc n) (plus_rounds f
 
 -- the plan that a player makes after a number of rounds
 abbrev pub plan_after : SequenceForm → Player → ℕ → ℕ → List ℕ
-plan_after form One root n = plan_of_play form.sets_one (play_of form.sets_one (plus_rounds form root n).regrets_one) root
-plan_after form Two root n = plan_of_play form.sets_two (play_of form.sets_two (plus_rounds form root n).regrets_two) root
+plan_after form One root n = plan_of_play form.sets_one (play_of form.sets_one (plus_rounds form root n).regrets_one)
+    root
+plan_after form Two root n = plan_of_play form.sets_two (play_of form.sets_two (plus_rounds form root n).regrets_two)
+    root
 
 abbrev pub sum_after : SequenceForm → Player → ℕ → ℕ → List ℕ
 sum_after form One root n = (plus_rounds form root n).sum_one

@@ -45,8 +45,10 @@ pub record IsNextPlusRound (form : SequenceForm) (root weight : ℕ) (before aft
   pub deals_of_two : IsPlanOfPlay form.sets_two play_two root plan_two
   pub sum_of_one : GrowsByTimes weight before.sum_one plan_one after.sum_one
   pub sum_of_two : GrowsByTimes weight before.sum_two plan_two after.sum_two
-  pub regrets_of_one : IsCutRound (own_sum One form.leaves plan_two) play_one form.sets_one before.regrets_one after.regrets_one
-  pub regrets_of_two : IsCutRound (own_sum Two form.leaves plan_one) play_two form.sets_two before.regrets_two after.regrets_two
+  pub regrets_of_one : IsCutRound (own_sum One form.leaves plan_two) play_one form.sets_one before.regrets_one
+      after.regrets_one
+  pub regrets_of_two : IsCutRound (own_sum Two form.leaves plan_one) play_two form.sets_two before.regrets_two
+      after.regrets_two
 
 -- so a run begins, and so round n + 1, which weighs n + 1, follows from the rounds before it
 pub record PlusRoundsFollow : Type 0 where

@@ -34,7 +34,11 @@ small_total : (form : SequenceForm) (player : Player) (against_sets : List Infor
     → AreInOrder (player_sets form player) → AreInOrder against_sets → IsPlan against_sets root plan
     → unsigned_abs (total_against form player plan) ≤ mass_of form.leaves * root
 small_total form player against_sets root plan order against_order is =
-    omega (arith, total-below player (leaf_sum player form.leaves plan) (player_sets form player) order, leaf_sums-below player form.leaves (player_sets form player) against_sets root plan against_order is)
+    omega (
+      arith,
+      total-below player (leaf_sum player form.leaves plan) (player_sets form player) order,
+      leaf_sums-below player form.leaves (player_sets form player) against_sets root plan against_order is,
+    )
 
 small_product : (mass weight root other : ℕ) (bound : ℤ) → unsigned_abs bound ≤ mass * (weight * root) → mass ≤ 2 ^ 62
     → weight ≤ 2098176 → root ≤ 16384 → other ≤ 2098176 → unsigned_abs (bound *ℤ pos other) < 2 ^ 119
@@ -58,8 +62,10 @@ plus_bounds_are_small form root round other order_one order_two some some_round 
     record {
       low = low;
       high = high;
-      low_product = small_product (mass_of form.leaves) (total_weight round) root (total_weight other) (total_against form Two (plus_rounds form root round).sum_one) low limits.small_mass weight limits.small_root other_weight;
-      high_product = small_product (mass_of form.leaves) (total_weight round) root (total_weight other) (total_against form One (plus_rounds form root round).sum_two) high limits.small_mass weight limits.small_root other_weight;
+      low_product = small_product (mass_of form.leaves) (total_weight round) root (total_weight other)
+          (total_against form Two (plus_rounds form root round).sum_one) low limits.small_mass weight limits.small_root other_weight;
+      high_product = small_product (mass_of form.leaves) (total_weight round) root (total_weight other)
+          (total_against form One (plus_rounds form root round).sum_two) high limits.small_mass weight limits.small_root other_weight;
     }
 
 -- and its offers are fair

@@ -40,7 +40,8 @@ PlusOffersAreFair = (form : SequenceForm) (root round : ℕ) → AreInOrder form
 pub record IsPlusBracket (form : SequenceForm) (root every last : ℕ) (ends : BracketEnds) : Type 0 where
   pub best : AreBestEndsIn form (plus_run form root) every last ends
   pub bounds : AreBoundsIn form root (plus_run form root) ends
-  pub in_order : (ends.lower.low *ℤ pos (total_weight ends.upper.round)) ≤ℤ (ends.upper.high *ℤ pos (total_weight ends.lower.round))
+  pub in_order : (ends.lower.low *ℤ pos (total_weight ends.upper.round))
+      ≤ℤ (ends.upper.high *ℤ pos (total_weight ends.lower.round))
   pub narrows : (j k : ℕ) (line : TraceLine) → j ≤ k → k < length (trace (plus_evaluations form root every last))
       → let lines = trace (plus_evaluations form root every last) in
       LiesWithinBy total_weight (slice_index_or lines k line) (slice_index_or lines j line)

@@ -1,5 +1,6 @@
 -- What the words mean is what the program computes of them.
-use Rattle.std.proofs.Common.{◌≡◌, ℕ, ◌≤◌, Bool, true, false, cond, nat_lt, length, List, [], Option, Some, None, Result, Ok, Err, refl, sym, ◌∙◌, ap, subst, arith}
+use Rattle.std.proofs.Common.{◌≡◌, ℕ, ◌≤◌, Bool, true, false, cond, nat_lt, length, List, [], Option, Some, None, Result, Ok, Err, refl, sym, ◌∙◌, ap, subst}
+use Rattle.std.proofs.Common.{arith}
 use Rattle.std.specs.Prelude.{All, IsSome, IsSomeAnd}
 use Rattle.std.specs.Option.{option_map}
 use Rattle.std.proofs.lemmas.Bool.{ltb-true, ltb-false, lt-ltb, le-ltb}
@@ -23,8 +24,10 @@ use Rattle.def_canon.specs.Poker.{poker}
 use Rattle.def_cert_verdict.specs.Verdict.{Verdict}
 use Rattle.def_check.specs.Check.{checked, most_cert_bytes}
 use Rattle.def_check.proofs.Checked.{checks_are}
-use Rattle.def_program.specs.Program.{Answer, answer_of, both_told, certificate_answer, check_answer, check_told, command_answer, file_answer, game_answer, made_answer, program, refusal, played, solved, success, usage}
-use Rattle.def_program.specs.Meaning.{BothMean, CertificateMeans, CheckMeans, CommandMeans, FileMeans, IsMeant, Means, file_too_long, file_within, refused, too_long, within, written}
+use Rattle.def_program.specs.Program.{Answer, answer_of, both_told, certificate_answer, check_answer, check_told, command_answer, file_answer, game_answer}
+use Rattle.def_program.specs.Program.{made_answer, program, refusal, played, solved, success, usage}
+use Rattle.def_program.specs.Meaning.{BothMean, CertificateMeans, CheckMeans, CommandMeans, FileMeans, IsMeant, Means, file_too_long, file_within, refused}
+use Rattle.def_program.specs.Meaning.{too_long, within, written}
 use Rattle.def_program.specs.Laws.{MeaningIsComputed, ToldWordsMeanOne}
 use Rattle.def_program.proofs.Batches.{are_told as all_are_told, batch_computed, batch_meant}
 use Rattle.def_program.proofs.PokerFileIsRead.{made_is}

@@ -1,4 +1,5 @@
--- The text of a batch: for each file in order a line with its number, and then its game's text or the line of its fault.
+-- The text of a batch: for each file in order a line with its number, and then its game's text or the line of its
+-- fault.
 --     batch_items files            what the files stand for: the game of each, or its first fault
 --     parts_text settings n items  the parts of items, counted from n
 --     batch_text settings files    the whole text

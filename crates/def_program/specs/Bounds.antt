@@ -9,7 +9,8 @@
 --     BoundsHold                 all of this
 --     PlayedPart, IsPlayed       a game that words play, with what is written before and behind its text
 --     ForEachPlayed              what holds of the bounds that were written of the games that words play
-use Rattle.std.specs.Prelude.{◌≡◌, ℕ, ◌+◌, ◌*◌, ◌<◌, ◌≤◌, List, [], ◌∷◌, ◌++◌, map, length, slice_index_or, ℤ, pos, ◌-ℤ◌, ◌*ℤ◌, ◌≤ℤ◌, Option, Some, None, IsSomeAnd, Result, Ok}
+use Rattle.std.specs.Prelude.{◌≡◌, ℕ, ◌+◌, ◌*◌, ◌<◌, ◌≤◌, List, [], ◌∷◌, ◌++◌, map, length, slice_index_or, ℤ, pos}
+use Rattle.std.specs.Prelude.{◌-ℤ◌, ◌*ℤ◌, ◌≤ℤ◌, Option, Some, None, IsSomeAnd, Result, Ok}
 use Rattle.def_outside.specs.Calls.{SinkCall, Wrote}
 use Rattle.def_file.specs.declared.FileFault.{FileFault}
 use Rattle.def_file.specs.Content.{GameFile}
@@ -27,7 +28,8 @@ use Rattle.def_cert_versions.specs.Verdict.{in_version_two}
 use Rattle.def_plus.specs.declared.Variant.{Variant}
 use Rattle.def_plus.specs.declared.Variant.TheVariants as variants
 use Rattle.def_plus.specs.Variants.{weight_of_rounds}
-use Rattle.def_command.specs.Grammar.{Batch, Check, Command, Drill, Gen, Info, Plus, Settings, Solve, Upgrade, command_of_words}
+use Rattle.def_command.specs.Grammar.{Batch, Check, Command, Drill, Gen, Info, Plus, Settings, Solve, Upgrade}
+use Rattle.def_command.specs.Grammar.{command_of_words}
 use Rattle.def_program.specs.BatchText.{batch_items, file_line, parts_text}
 use Rattle.def_program.specs.Text.{game_head, game_certificate, played_text, text_of_variant}
 use Rattle.def_canon.specs.Poker.{poker}
@@ -141,8 +143,8 @@ pub record IsPartOf (settings : Settings) (files : List (List ℕ)) (part : Play
   pub items : batch_items files ≡ before ++ Ok part.game ∷ behind
   pub is : part ≡ written_between settings before part.game behind
 
--- the command plays this: `solve` and `plus` the game of an accepted file, `drill` one-card poker, and `batch` each of its
--- files that is accepted
+-- the command plays this: `solve` and `plus` the game of an accepted file, `drill` one-card poker, and `batch` each of
+-- its files that is accepted
 abbrev pub CommandPlays : Command → (List ℕ → Option (List ℕ)) → PlayedPart → Type 0
 CommandPlays (Solve file asked rows) told part =
     IsSomeAnd (told file) (λ bytes. IsAccepted bytes part.game) × (part ≡ written_alone variants.Plain part.game asked)
@@ -163,7 +165,8 @@ IsPlayed (Some command) told part = CommandPlays command told part
 -- the text with the game's bounds was written in its place, and this holds of them
 abbrev pub WroteBounds : (WeighedGame → Variant → ℕ → PrintedBounds → Type 0) → SinkCall → PlayedPart → Type 0
 WroteBounds Holds out part = IsSomeAnd (game_bounds part.variant part.game part.settings)
-    (λ b. Wrote out (part.front ++ (text_of_variant part.variant (in_version_two (with_bounds (game_head part.game part.settings) b)) ++ part.back))
+    (λ b. Wrote out (part.front ++ (text_of_variant part.variant
+    (in_version_two (with_bounds (game_head part.game part.settings) b)) ++ part.back))
     × Holds (weighed_game part.game) part.variant part.settings.scale b)
 
 -- so it is for each game that the words play for at least one round

@@ -34,7 +34,8 @@ pub record HoldsOfFile (file bytes : List ℕ) (IsVerdict : VersionedCertificate
   pub head : IsHeadOf (weighed_game game) certificate.certificate.head
   pub second : HasItsSecond certificate
   pub verdict : IsVerdict certificate (shown_by certificate.certificate.bounds)
-  pub bounds : IfSome certificate.certificate.bounds (Holds (weighed_game game) Plain certificate.certificate.head.scale)
+  pub bounds : IfSome certificate.certificate.bounds (Holds (weighed_game game) Plain
+      certificate.certificate.head.scale)
 
 -- ---- the certificates that words check
 

@@ -1,5 +1,6 @@
 -- What words mean in the format's terms is what the program computes, and where their files are told, they mean one
--- answer. What `upgrade` writes is the text of an upgrade. The bounds that are printed of a game that was played hold, and so do those of an accepted certificate.
+-- answer. What `upgrade` writes is the text of an upgrade. The bounds that are printed of a game that was played hold,
+-- and so do those of an accepted certificate.
 use Rattle.std.specs.Prelude.{◌≡◌, ◌↔◌, ℕ, ◌≤◌, List, Option, Some, Ok}
 use Rattle.def_file.specs.Content.{GameFile}
 use Rattle.def_cert_verdict.specs.Verdict.{Verdict}

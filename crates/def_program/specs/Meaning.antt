@@ -2,7 +2,8 @@
 -- isn't told, that answer isn't meant.
 --     CommandMeans command told a    the command means this answer, by cases of the command
 --     Means words told a             the words mean it
-use Rattle.std.specs.Prelude.{◌≡◌, ◌⊎◌, ℕ, ◌<◌, ◌≤◌, List, length, map, All, Option, Some, None, IsSome, IsSomeAnd, Result, Ok, Err}
+use Rattle.std.specs.Prelude.{◌≡◌, ◌⊎◌, ℕ, ◌<◌, ◌≤◌, List, length, map, All, Option, Some, None, IsSome, IsSomeAnd}
+use Rattle.std.specs.Prelude.{Result, Ok, Err}
 use Rattle.std.specs.List.{AllZip}
 use Rattle.def_file.specs.declared.FileFault.{FileFault}
 use Rattle.def_file.specs.Content.{GameFile}
@@ -16,7 +17,8 @@ use Rattle.def_check.specs.Checking.{Checks}
 use Rattle.def_check.specs.Accepted.{IsAccepted}
 use Rattle.def_batch.specs.Batch.{BatchEntry, Kept, Long, batch_room}
 use Rattle.def_batch.specs.Laws.{HaveEntries}
-use Rattle.def_command.specs.Grammar.{Batch, Check, Command, Drill, Gen, Info, Plus, Settings, Solve, Upgrade, command_of_words, named_files}
+use Rattle.def_command.specs.Grammar.{Batch, Check, Command, Drill, Gen, Info, Plus, Settings, Solve, Upgrade}
+use Rattle.def_command.specs.Grammar.{command_of_words, named_files}
 use Rattle.def_program.specs.Text.{info_text}
 use Rattle.def_program.specs.BatchText.{parts_text}
 use Rattle.def_program.specs.TextLines.{fault_line}
@@ -69,7 +71,8 @@ pub record BatchMeans (settings : Settings) (files : List (List ℕ)) (answer : 
 
 -- a batch means something only where all its files are told
 abbrev pub AllMean : Settings → List (Option (List ℕ)) → Answer → Type 0
-AllMean settings contents answer = (files : List (List ℕ)) × (contents ≡ map Some files) × BatchMeans settings files answer
+AllMean settings contents answer = (files : List (List ℕ)) × (contents ≡ map Some files)
+    × BatchMeans settings files answer
 
 -- `gen` means the canonical form of one-card poker, and `drill` what `solve` means of a file of these bytes
 abbrev pub CommandMeans : Command → (List ℕ → Option (List ℕ)) → Answer → Type 0

@@ -81,7 +81,8 @@ between_marks text = 34 ∷ (escaped text ++ 34 ∷ [])
 abbrev pub info_front : GameFile → List ℕ
 info_front game =
     codes "title " ++ (between_marks game.prologue.title ++ (line_feed
-    ++ (codes "players " ++ (between_marks game.prologue.one ++ (codes " " ++ (between_marks game.prologue.two ++ line_feed))))))
+    ++ (codes "players " ++ (between_marks game.prologue.one
+    ++ (codes " " ++ (between_marks game.prologue.two ++ line_feed))))))
 
 abbrev pub info_text : GameFile → List ℕ
 info_text game = info_front game ++ head_text (game_head game no_rounds)

@@ -17,7 +17,8 @@ use Rattle.def_cert_text.specs.Formats.{Format, each_items, row_items}
 use Rattle.def_cert_text.specs.declared.version.TextVersion.{TextVersion}
 use Rattle.def_cert_text.specs.declared.version.TextVersion.TheVariants as versions
 use Rattle.def_cert_text.specs.Versions.{PrintedBracket}
-use Rattle.def_cert_text.specs.CertText.{version_field, sum_field, sum_items, mass_line, payoff_lines, asked_line, head_lines_of, line_of_round, weights_line, value_line, bracket_line, second_line}
+use Rattle.def_cert_text.specs.CertText.{version_field, sum_field, sum_items, mass_line, payoff_lines, asked_line, head_lines_of, line_of_round, weights_line}
+use Rattle.def_cert_text.specs.CertText.{value_line, bracket_line, second_line}
 
 -- ---- numbers
 -- a number below 10 ^ k and 10 ^ 64 has at most k digits, where k is 1 at least

@@ -18,14 +18,16 @@ use Rattle.def_cert_text.specs.declared.version.TextVersion.{TextVersion}
 use Rattle.def_cert_text.specs.declared.version.TextVersion.TheVariants as versions
 use Rattle.def_cert_text.specs.Formats.{asked_items}
 use Rattle.def_cert_text.specs.Versions.{PrintedBracket, SecondFits, VersionedFits}
-use Rattle.def_cert_text.specs.CertText.{head_lines_of, last_lines, second_line, version_field, line_of_round, round_of_evaluation, trace_lines, weights_line, plan_lines, value_line, reply_lines, bracket_line, bounds_lines, versioned_certificate, versioned_text}
+use Rattle.def_cert_text.specs.CertText.{head_lines_of, last_lines, second_line, version_field, line_of_round, round_of_evaluation, trace_lines, weights_line}
+use Rattle.def_cert_text.specs.CertText.{plan_lines, value_line, reply_lines, bracket_line, bounds_lines, versioned_certificate, versioned_text}
 use Rattle.def_cert_text.proofs.TextLines.{end_items}
 use Rattle.def_check.specs.Check.{most_cert_bytes}
 use Rattle.def_check.specs.Shown.{Shows}
 use Rattle.def_check.proofs.Checked.{checks_show}
 use Rattle.def_game_numbers.specs.Weighed.{weighed_game}
 use Rattle.def_program_laws.specs.SolveLaws.{AcceptedTextsAreShort}
-use Rattle.def_program_laws.proofs.CertificateLineWidths.{few_digits, few_signed, widths, widths-append, text_width, each_width, version_width, head_width, HasSmallNumbers, trace_line_width, weights_width, value_width, bracket_width, second_width}
+use Rattle.def_program_laws.proofs.CertificateLineWidths.{few_digits, few_signed, widths, widths-append, text_width, each_width, version_width, head_width}
+use Rattle.def_program_laws.proofs.CertificateLineWidths.{HasSmallNumbers, trace_line_width, weights_width, value_width, bracket_width, second_width}
 
 -- ---- the trace
 small_lines : (head : Head) (lines : List TraceLine) → HeadFits head → TraceFits head lines

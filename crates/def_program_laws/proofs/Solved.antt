@@ -42,11 +42,13 @@ use Rattle.def_program.specs.TextLines.{fault_line}
 use Rattle.def_program.specs.CheckLines.{cert_long_line, check_text}
 use Rattle.def_plus.specs.declared.Variant.TheVariants.{Plain, Plus}
 use Rattle.def_program.specs.Text.{form_of_file, game_certificate, game_head, played_text, solve_text}
-use Rattle.def_program.specs.Program.{Answer, answer_of, both_told, certificate_answer, check_answer, check_told, file_answer, game_answer, made_answer, program, refusal, solved, success}
+use Rattle.def_program.specs.Program.{Answer, answer_of, both_told, certificate_answer, check_answer, check_told, file_answer, game_answer, made_answer}
+use Rattle.def_program.specs.Program.{program, refusal, solved, success}
 use Rattle.def_program.proofs.PokerFileIsRead.{made_is}
 use Rattle.def_program.proofs.Played.{head_of_game, played_games_have_bounds}
 use Rattle.def_program.specs.Bounds.{HasItsBounds}
-use Rattle.def_program_laws.specs.SolveLaws.{AreAcceptedAlike, IsAcceptedWithBounds, IsTaken, OldTextsAreAccepted, PlusTextsAreRefused, SolvedTextsAreAccepted, SolvedTextsAreShort, WhatDrillWritesCheckAccepts, WhatSolveWritesCheckAccepts, solve_text_in_one}
+use Rattle.def_program_laws.specs.SolveLaws.{AreAcceptedAlike, IsAcceptedWithBounds, IsTaken, OldTextsAreAccepted, PlusTextsAreRefused, SolvedTextsAreAccepted}
+use Rattle.def_program_laws.specs.SolveLaws.{SolvedTextsAreShort, WhatDrillWritesCheckAccepts, WhatSolveWritesCheckAccepts, solve_text_in_one}
 use Rattle.def_program_laws.proofs.Heads.{game_tree, head_fits}
 use Rattle.def_program_laws.proofs.CertificatesAreShort.{accepted_short}
 

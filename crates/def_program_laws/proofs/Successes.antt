@@ -27,11 +27,13 @@ use Rattle.def_program.specs.Program.{Answer, check_answer, game_answer, played,
 use Rattle.def_program.specs.Bounds.{IsPlayed, PlayedPart, written_alone}
 use Rattle.def_program.specs.BatchText.{item_text}
 use Rattle.def_check.specs.Accepting.{read_as_accepted}
-use Rattle.def_program.specs.Meaning.{BothMean, CertificateMeans, CheckMeans, FileMeans, IsMeant, file_too_long, file_within, refused, too_long, within, written}
+use Rattle.def_program.specs.Meaning.{BothMean, CertificateMeans, CheckMeans, FileMeans, IsMeant, file_too_long, file_within, refused, too_long, within}
+use Rattle.def_program.specs.Meaning.{written}
 use Rattle.def_program.specs.Lines.{IsCheck}
 use Rattle.def_program.specs.Checked.{AreChecked, checked_text}
 use Rattle.def_program.proofs.Checked.{certificates_hold, upgraded_is}
-use Rattle.def_program_laws.specs.Answers.{BatchesAreNeverRefused, IsPlayer, PartsAreSolvedAlone, ShowsOneCheck, SuccessIsOfOneCheck, SuccessIsOfOneGame, WritesOneGame}
+use Rattle.def_program_laws.specs.Answers.{BatchesAreNeverRefused, IsPlayer, PartsAreSolvedAlone, ShowsOneCheck, SuccessIsOfOneCheck, SuccessIsOfOneGame}
+use Rattle.def_program_laws.specs.Answers.{WritesOneGame}
 
 -- a file stands for one game
 one_game : (bytes : List ℕ) (game other : GameFile) → StandsFor bytes game → StandsFor bytes other → other ≡ game

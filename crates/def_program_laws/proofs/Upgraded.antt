@@ -52,7 +52,8 @@ accepted_again file bytes shown short is =
 
 -- what `upgrade` wrote, `check` accepts, and `upgrade` writes again
 pub upgrade_accepts : WhatUpgradeWritesCheckAccepts
-upgrade_accepts words checkers again told after path cert_path game_path text_path file bytes text upgrade file_there there wrote check once_more game_there text_there =
+upgrade_accepts words checkers again told after path cert_path game_path text_path file bytes text upgrade file_there there wrote check once_more game_there
+    text_there =
     let means : BothMean upgraded_text (told path) (told cert_path) (success text) =
     subst (λ (c : Option Command). IsMeant c told (success text)) upgrade ((meaning_computed words told (success text)).1 wrote) in
     let check_means : CheckMeans upgraded_text file (Some bytes) (success text) =

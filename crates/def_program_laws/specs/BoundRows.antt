@@ -1,4 +1,5 @@
--- Worked rows: the exploitability of two plans of matching pennies, and what the bounds of two plans say of both players.
+-- Worked rows: the exploitability of two plans of matching pennies, and what the bounds of two plans say of both
+-- players.
 use Rattle.std.specs.Prelude.{◌≡◌, ℕ, ◌*◌, List, [], ◌∷◌, ℤ, pos}
 use Rattle.def_tree.specs.declared.Player.TheVariants.{One, Two}
 use Rattle.def_tree.specs.Rules.{matching_pennies}
@@ -45,4 +46,5 @@ pub record BothPlayersRows : Type 0 where
   pub two_gets_at_most : difference_of (game_sum coin_tables matching_pennies) coin_low ≡ over (pos 1) 2
   pub apart : difference_of coin_high coin_low ≡ over (pos 1) 6
   pub gap : fraction_of (pos 1) (game_unit coin_tables matching_pennies * (2 * 3)) ≡ over (pos 1) 6
-  pub gains : sum_of (difference_of coin_high (over (pos 1) 2)) (difference_of (over (pos 1) 2) (over (pos 1) 2)) ≡ over (pos 1) 6
+  pub gains : sum_of (difference_of coin_high (over (pos 1) 2)) (difference_of (over (pos 1) 2) (over (pos 1) 2))
+      ≡ over (pos 1) 6

@@ -1,5 +1,5 @@
--- Two plans have one exploitability, a printed bound is the best of those that hold of its plan, and both printed bounds
--- bound both players.
+-- Two plans have one exploitability, a printed bound is the best of those that hold of its plan, and both printed
+-- bounds bound both players.
 --     BoundsAreSharp              LOW is the greatest, and HIGH the least
 --     HoldForBothPlayers          what LOW and HIGH say of what each player is expected to get
 --     BoundsHoldForBothPlayers    they say so of an accepted file's game
@@ -49,14 +49,17 @@ pub record BoundsAreSharp : Type 0 where
       → BoundsHold game variant scale b → ConcedesAtMost game b.plan_two.root (printed_numbers b.plan_two) bound
       → IsAtMost b.high bound
 
--- What printed bounds say of both players, each in their own expected payoffs. LOW and HIGH are player one's; player two's
--- are what the game's sum is above them.
+-- What printed bounds say of both players, each in their own expected payoffs. LOW and HIGH are player one's; player
+-- two's are what the game's sum is above them.
 pub record HoldForBothPlayers (tables : Tables) (tree : Forest) (b : PrintedBounds) : Type 0 where
   -- player one's plan gets at least LOW, and player two gets at most the sum less LOW against it, which some plan gets
   pub one_gets : IsSureOf One tables tree (printed_numbers b.plan_one) b.low
-  pub two_gets_at_most : KeepsTo One tables tree (printed_numbers b.plan_one) (difference_of (game_sum tables tree) b.low)
-  pub best_of_two : IsBestPayoff Two tables tree (printed_numbers b.plan_one) (difference_of (game_sum tables tree) b.low)
-  -- player two's plan gets at least the sum less HIGH, and player one gets at most HIGH against it, which some plan gets
+  pub two_gets_at_most : KeepsTo One tables tree (printed_numbers b.plan_one)
+      (difference_of (game_sum tables tree) b.low)
+  pub best_of_two : IsBestPayoff Two tables tree (printed_numbers b.plan_one)
+      (difference_of (game_sum tables tree) b.low)
+  -- player two's plan gets at least the sum less HIGH, and player one gets at most HIGH against it, which some plan
+  -- gets
   pub two_gets : IsSureOf Two tables tree (printed_numbers b.plan_two) (difference_of (game_sum tables tree) b.high)
   pub one_gets_at_most : KeepsTo Two tables tree (printed_numbers b.plan_two) b.high
   pub best_of_one : IsBestPayoff One tables tree (printed_numbers b.plan_two) b.high
@@ -67,15 +70,18 @@ pub record HoldForBothPlayers (tables : Tables) (tree : Forest) (b : PrintedBoun
       → IsSureOf Two tables tree plan bound → IsAtMost bound (difference_of (game_sum tables tree) b.low)
   -- HIGH less LOW is the total exploitability of both plans, and so what both players together could gain
   pub gap : ℤ
-  pub exploitability : IsExploitability (form_of_game tables tree) b.plan_one.root b.plan_two.root (printed_numbers b.plan_one)
+  pub exploitability : IsExploitability (form_of_game tables tree) b.plan_one.root b.plan_two.root
+      (printed_numbers b.plan_one)
       (printed_numbers b.plan_two) gap
   pub apart : difference_of b.high b.low ≡ fraction_of gap (game_unit tables tree * (b.plan_one.root * b.plan_two.root))
-  pub gained : IsGainOfBoth tables tree b.plan_one.root b.plan_two.root (printed_numbers b.plan_one) (printed_numbers b.plan_two) gap
+  pub gained : IsGainOfBoth tables tree b.plan_one.root b.plan_two.root (printed_numbers b.plan_one)
+      (printed_numbers b.plan_two) gap
 
 -- bounds that hold of an accepted file's game, whoever printed them, bound both players
 abbrev pub BoundsHoldForBothPlayers : Type 0
 BoundsHoldForBothPlayers = (bytes : List ℕ) (game : GameFile) (variant : Variant) (scale : ℕ) (b : PrintedBounds)
-    → IsAccepted bytes game → BoundsHold (weighed_game game) variant scale b → HoldForBothPlayers (tables_of game) game.tree b
+    → IsAccepted bytes game → BoundsHold (weighed_game game) variant scale b
+    → HoldForBothPlayers (tables_of game) game.tree b
 
 -- whoever wrote it, the second bracket of a text of version 2 that is accepted against a file bounds player two of its
 -- game: what its plan is sure of, and what no plan is sure of more than

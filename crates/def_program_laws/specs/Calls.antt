@@ -3,7 +3,8 @@ use Rattle.std.specs.Prelude.{◌≡◌, ℕ, List, [], ◌∷◌, ◌++◌, cod
 use Rattle.def_canon.specs.PokerRows.{two_cards}
 use Rattle.def_program.specs.Program.{Answer, program}
 use Rattle.def_program.specs.TextLines.{usage_line}
-use Rattle.def_program_laws.specs.Files.{files_told, pennies_of_one_round, pennies_of_plus, pennies_of_scale_one, pennies_of_scale_ten}
+use Rattle.def_program_laws.specs.Files.{files_told, pennies_of_one_round, pennies_of_plus, pennies_of_scale_one}
+use Rattle.def_program_laws.specs.Files.{pennies_of_scale_ten}
 use Rattle.def_program_laws.specs.Files.{poker_of_one_round, poker_unplayed, quoted_numbers}
 
 -- the answer to words of which the first is a command's

@@ -14,8 +14,10 @@ pub record LimitRows : Type 0 where
   pub one_card : command_of_words (codes "drill" ∷ codes "1" ∷ []) ≡ None
   pub many_cards : command_of_words (codes "drill" ∷ codes "65" ∷ []) ≡ None
   pub most_every : command_of_words (codes "solve" ∷ codes "--every=65536" ∷ codes "F1" ∷ [])
-      ≡ Some (Solve (codes "F1") (record { rounds = 1000; every = 65536; scale = 1048576 }) (record { workers = None; atomic = false }))
+      ≡ Some (Solve (codes "F1") (record { rounds = 1000; every = 65536; scale = 1048576 })
+      (record { workers = None; atomic = false }))
   pub large_every : command_of_words (codes "solve" ∷ codes "--every=65537" ∷ codes "F1" ∷ []) ≡ None
   pub most_scale : command_of_words (codes "solve" ∷ codes "--scale=1048576" ∷ codes "F1" ∷ [])
-      ≡ Some (Solve (codes "F1") (record { rounds = 1000; every = 1000; scale = 1048576 }) (record { workers = None; atomic = false }))
+      ≡ Some (Solve (codes "F1") (record { rounds = 1000; every = 1000; scale = 1048576 })
+      (record { workers = None; atomic = false }))
   pub scale_zero : command_of_words (codes "solve" ∷ codes "--scale=0" ∷ codes "F1" ∷ []) ≡ None

@@ -1,7 +1,10 @@
 -- Worked rows: the lines of the faults of a file that def_program has no row of, and the lines of the statuses.
 use Rattle.std.specs.Prelude.{◌≡◌, ◌↔◌, ℕ, ◌≤◌, List, ◌++◌, codes}
 use Rattle.def_fraction.specs.declared.fault.NumberFault.TheVariants.{Form, ZeroDenominator}
-use Rattle.def_file.specs.declared.FileFault.TheVariants.{TooLong, UnexpectedEnd, TrailingText, Number, PlayerNumber, SetUndefined, OutcomeUndefined, OutcomeMismatch, PayoffCount, TooManyNodes, ActionCount, ChanceNegative, ChanceSum, NotConstantSum, Scale}
+use Rattle.def_file.specs.declared.FileFault.TheVariants.{TooLong, UnexpectedEnd, TrailingText, Number, PlayerNumber}
+use Rattle.def_file.specs.declared.FileFault.TheVariants.{SetUndefined, OutcomeUndefined, OutcomeMismatch, PayoffCount}
+use Rattle.def_file.specs.declared.FileFault.TheVariants.{TooManyNodes, ActionCount, ChanceNegative, ChanceSum}
+use Rattle.def_file.specs.declared.FileFault.TheVariants.{NotConstantSum, Scale}
 use Rattle.def_command.specs.Grammar.{command_of_words}
 use Rattle.def_program.specs.TextLines.{fault_line}
 use Rattle.def_program.specs.Lines.{IsCheck, IsLine}

@@ -59,7 +59,8 @@ AcceptedTextsAreShort = (file bytes : List ℕ) (shown : Verdict) → length fil
 
 -- what `solve` writes of an accepted file is within the limit of a certificate's bytes
 abbrev pub SolvedTextsAreShort : Type 0
-SolvedTextsAreShort = (file : List ℕ) (game : GameFile) (settings : Settings) (workers : Option ℕ) → IsAccepted file game
+SolvedTextsAreShort = (file : List ℕ) (game : GameFile) (settings : Settings) (workers : Option ℕ)
+    → IsAccepted file game
     → InRange settings workers → length (solve_text game settings) < most_cert_bytes
 
 -- what `plus` writes of a game is no certificate: a check against any accepted file finds its first byte wrong

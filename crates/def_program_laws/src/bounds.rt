@@ -2,7 +2,8 @@
 //! code here: each function's contract is a law of the definitions, or rows that they give.
 
 ghost use Rattle.def_program_laws.specs.Answers.{SuccessIsOfOneCheck, SuccessIsOfOneGame};
-ghost use Rattle.def_program_laws.specs.Answers.{BatchesAreNeverRefused, PartsAreSolvedAlone, UpgradesAreRefusedAsChecks};
+ghost use Rattle.def_program_laws.specs.Answers.{BatchesAreNeverRefused, PartsAreSolvedAlone};
+ghost use Rattle.def_program_laws.specs.Answers.{UpgradesAreRefusedAsChecks};
 ghost use Rattle.def_program_laws.specs.Bounds.{AcceptedSecondsBoundPlayerTwo, BoundsAreSharp};
 ghost use Rattle.def_program_laws.specs.Bounds.{BoundsHoldForBothPlayers, ExploitabilityIsOne};
 ghost use Rattle.def_program_laws.specs.BoundRows.{BothPlayersRows, ExploitabilityRows};
@@ -35,14 +36,14 @@ pub fn accepted_seconds_bound_player_two()
     ensures { AcceptedSecondsBoundPlayerTwo }
 {}
 
-/// Rows: in matching pennies for one coin, of LOW 1/2 and HIGH 2/3 player two gets at most 1/2 and at least 1/3, and both
-/// players together could gain 1/6.
+/// Rows: in matching pennies for one coin, of LOW 1/2 and HIGH 2/3 player two gets at most 1/2 and at least 1/3, and
+/// both players together could gain 1/6.
 pub fn both_players_rows()
     ensures { BothPlayersRows }
 {}
 
-/// A successful `solve`, `drill` or `plus` played one game, by one variant of rounds and with one choice of settings, and
-/// wrote the text of just that.
+/// A successful `solve`, `drill` or `plus` played one game, by one variant of rounds and with one choice of settings,
+/// and wrote the text of just that.
 pub fn success_is_of_one_game()
     ensures { SuccessIsOfOneGame }
 {}

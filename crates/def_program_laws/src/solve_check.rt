@@ -43,8 +43,8 @@ pub fn what_solve_writes_check_accepts()
     ensures { WhatSolveWritesCheckAccepts }
 {}
 
-/// Where `drill` writes a text, `check` of what `gen` writes for as many cards and that text ends with status 0 and says
-/// what it shows.
+/// Where `drill` writes a text, `check` of what `gen` writes for as many cards and that text ends with status 0 and
+/// says what it shows.
 pub fn what_drill_writes_check_accepts()
     ensures { WhatDrillWritesCheckAccepts }
 {}

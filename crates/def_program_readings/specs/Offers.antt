@@ -10,7 +10,8 @@ use Rattle.def_cert_text.specs.Versions.{VersionedCertificate}
 use Rattle.def_cert_versions.specs.Laws.{HasItsSecond}
 use Rattle.def_cert_versions.specs.Upgrade.{EndsTurn, IsUpgradable}
 
--- a round later than the last one, two plans of one root, which is the divisor times a scale, and the best reply to each
+-- a round later than the last one, two plans of one root, which is the divisor times a scale, and the best reply to
+-- each
 pub record IsOffered (form : SequenceForm) (last : ℕ) (offer : Offer) : Type 0 where
   pub scale : ℕ
   pub later : last < offer.round

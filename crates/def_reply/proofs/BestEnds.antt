@@ -1,11 +1,13 @@
 -- The ends are the earliest best evaluations.
-use Rattle.std.proofs.Common.{◌≡◌, ℕ, ◌≤◌, ◌<◌, ◌⊎◌, inl, inr, cond, List, [], ◌∷◌, ◌++◌, length, get_or, take, fold, pos, ◌*ℤ◌, All, arith, ap, sym, ◌∙◌, refl, subst, ⊎_elim, Option, Some, None, append_assoc, length-append}
+use Rattle.std.proofs.Common.{◌≡◌, ℕ, ◌≤◌, ◌<◌, ◌⊎◌, inl, inr, cond, List, [], ◌∷◌, ◌++◌, length, get_or, take, fold, pos, ◌*ℤ◌, All, arith, ap, sym, ◌∙◌, refl}
+use Rattle.std.proofs.Common.{subst, ⊎_elim, Option, Some, None, append_assoc, length-append}
 use Rattle.std.proofs.lemmas.Bool.{cases_lt}
 use Rattle.std.proofs.lemmas.Option.{none-some}
 use Rattle.std.proofs.lemmas.List.{append-nil, get_or_append_left, get_or_at, take-append-le, take_at, get_or-take, length-take-le}
 use Rattle.std.proofs.lemmas.List.Elements.{All-push, All-weaker, All-head, All-tail, All-cons, All-nil}
 use Rattle.def_sums.proofs.RingLaws.{≤ℤ_refl}
-use Rattle.def_reply.specs.Bracket.{Evaluation, BracketEnds, HasLowerFloor, HasFloorAtMost, HasLowerCeiling, HasCeilingAtMost, higher_floor, lower_ceiling, next_ends, first_ends, ends_of, IsLowerEnd, IsUpperEnd}
+use Rattle.def_reply.specs.Bracket.{Evaluation, BracketEnds, HasLowerFloor, HasFloorAtMost, HasLowerCeiling, HasCeilingAtMost, higher_floor, lower_ceiling}
+use Rattle.def_reply.specs.Bracket.{next_ends, first_ends, ends_of, IsLowerEnd, IsUpperEnd}
 use Rattle.def_reply.specs.BracketLaws.{HaveDivisors, EndsAreTheEarliestBest}
 use Rattle.def_reply.proofs.Compares.{int_lt_tells, less_at_most, not_less, at_most-less, less-at_most}
 
@@ -42,7 +44,8 @@ module _ {Below AtMost : Evaluation → Evaluation → Type 0} {keep : Evaluatio
         place = length es;
         within = omega (arith, length-append es (next ∷ []));
         stands = λ d. get_or_at es next [] d (length es) refl;
-        greatest = All-push (λ a. AtMost a next) es next (All-weaker (λ a. Below a next) (λ a. AtMost a next) (λ a. orders.weaker a next) es below) (orders.same next);
+        greatest = All-push (λ a. AtMost a next) es next (All-weaker (λ a. Below a next) (λ a. AtMost a next) (λ a. orders.weaker a next) es below)
+            (orders.same next);
         earliest = subst (All (λ a. Below a next)) (sym (take_at es (next ∷ []) (length es) refl)) below;
       }
 
@@ -75,21 +78,30 @@ module _ {Below AtMost : Evaluation → Evaluation → Type 0} {keep : Evaluatio
   from_first : (e : Evaluation) (later : List Evaluation) → HaveDivisors (e ∷ later)
       → IsFirstOfGreatest (e ∷ later) (fold keep e later)
   from_first e later rounds =
-      let alone : IsFirstOfGreatest (e ∷ []) e = record { place = 0; within = omega arith; stands = λ d. refl; greatest = All-cons (λ a. AtMost a e) e [] (orders.same e) (All-nil (λ a. AtMost a e)); earliest = All-nil (λ a. Below a e) } in
-      all_more (e ∷ []) e later (All-cons (λ a. 1 ≤ a.divisor) e [] (All-head (λ a. 1 ≤ a.divisor) e later rounds) (All-nil (λ a. 1 ≤ a.divisor))) (All-tail (λ a. 1 ≤ a.divisor) e later rounds) alone
+      let alone : IsFirstOfGreatest (e ∷ []) e = record {
+        place = 0;
+        within = omega arith;
+        stands = λ d. refl;
+        greatest = All-cons (λ a. AtMost a e) e [] (orders.same e) (All-nil (λ a. AtMost a e));
+        earliest = All-nil (λ a. Below a e);
+      } in
+      all_more (e ∷ []) e later (All-cons (λ a. 1 ≤ a.divisor) e [] (All-head (λ a. 1 ≤ a.divisor) e later rounds) (All-nil (λ a. 1 ≤ a.divisor)))
+      (All-tail (λ a. 1 ≤ a.divisor) e later rounds) alone
 
   -- of two such evaluations neither comes first
   not_earlier : (es : List Evaluation) (e f : Evaluation) (a : IsFirstOfGreatest es e) (b : IsFirstOfGreatest es f)
       → a.place < b.place → ⊥
   not_earlier es e f a b less =
-      let shown : Below e f = subst (λ x. Below x f) (get_or-take b.place es a.place e less ∙ a.stands e) (b.earliest a.place e (omega (arith, b.within, length-take-le b.place es (omega (arith, b.within))))) in
+      let shown : Below e f = subst (λ x. Below x f) (get_or-take b.place es a.place e less ∙ a.stands e)
+      (b.earliest a.place e (omega (arith, b.within, length-take-le b.place es (omega (arith, b.within))))) in
       let back : AtMost f e = subst (λ x. AtMost x e) (b.stands e) (a.greatest b.place e b.within) in
       orders.apart e f shown back
 
   one_only : (es : List Evaluation) (e f : Evaluation) → IsFirstOfGreatest es e → IsFirstOfGreatest es f → e ≡ f
   one_only es e f a b =
       let same_place : a.place ≡ b.place =
-      ⊎_elim (λ less. absurd (not_earlier es e f a b less)) (λ le. ⊎_elim (λ less. absurd (not_earlier es f e b a less)) (λ ge. omega arith) (cases_lt b.place a.place)) (cases_lt a.place b.place)
+      ⊎_elim (λ less. absurd (not_earlier es e f a b less)) (λ le. ⊎_elim (λ less. absurd (not_earlier es f e b a less)) (λ ge. omega arith)
+      (cases_lt b.place a.place)) (cases_lt a.place b.place)
       in
       sym (a.stands e) ∙ ap (λ k. get_or es k e) same_place ∙ b.stands e
 
@@ -140,7 +152,8 @@ lower_end : (es : List Evaluation) (ends : BracketEnds) → HaveDivisors es → 
 lower_end [] ends rounds e = absurd (none-some ends e)
 lower_end (a ∷ rest) ends rounds e =
     let f = from_first floors a rest rounds in
-    let is : fold higher_floor a rest ≡ ends.lower = sym (fold-lower (first_ends a) rest) ∙ ap (λ x. x.lower) (ends-are (fold next_ends (first_ends a) rest) ends e) in
+    let is : fold higher_floor a rest ≡ ends.lower = sym (fold-lower (first_ends a) rest)
+    ∙ ap (λ x. x.lower) (ends-are (fold next_ends (first_ends a) rest) ends e) in
     subst (IsLowerEnd (a ∷ rest)) is (record { place = f.place; within = f.within; stands = f.stands; greatest = f.greatest; earliest = f.earliest })
 
 upper_end : (es : List Evaluation) (ends : BracketEnds) → HaveDivisors es → ends_of es ≡ Some ends
@@ -148,7 +161,8 @@ upper_end : (es : List Evaluation) (ends : BracketEnds) → HaveDivisors es → 
 upper_end [] ends rounds e = absurd (none-some ends e)
 upper_end (a ∷ rest) ends rounds e =
     let f = from_first ceilings a rest rounds in
-    let is : fold lower_ceiling a rest ≡ ends.upper = sym (fold-upper (first_ends a) rest) ∙ ap (λ x. x.upper) (ends-are (fold next_ends (first_ends a) rest) ends e) in
+    let is : fold lower_ceiling a rest ≡ ends.upper = sym (fold-upper (first_ends a) rest)
+    ∙ ap (λ x. x.upper) (ends-are (fold next_ends (first_ends a) rest) ends e) in
     subst (IsUpperEnd (a ∷ rest)) is (record { place = f.place; within = f.within; stands = f.stands; least = f.greatest; earliest = f.earliest })
 
 as_lower : {es : List Evaluation} {e : Evaluation} → IsLowerEnd es e → IsFirstGreatest HasLowerFloor HasFloorAtMost es e

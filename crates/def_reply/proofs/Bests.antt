@@ -1,5 +1,6 @@
 -- The best of some worths, and the first place that has it.
-use Rattle.std.proofs.Common.{◌≡◌, ◌≢◌, ℕ, zero, suc, ◌+◌, ◌-◌, ◌≤◌, ◌<◌, ◌⊎◌, inl, inr, Bool, true, false, cond, List, [], ◌∷◌, length, get_or, ℤ, pos, All, arith, ap, sym, ◌∙◌, refl, subst, ⊎_elim, int_lt}
+use Rattle.std.proofs.Common.{◌≡◌, ◌≢◌, ℕ, zero, suc, ◌+◌, ◌-◌, ◌≤◌, ◌<◌, ◌⊎◌, inl, inr, Bool, true, false, cond, List, [], ◌∷◌, length, get_or, ℤ, pos, All}
+use Rattle.std.proofs.Common.{arith, ap, sym, ◌∙◌, refl, subst, ⊎_elim, int_lt}
 use Rattle.std.specs.Ordering.{int_eq}
 use Rattle.std.proofs.lemmas.Int.{ints, clamps}
 use Rattle.std.proofs.lemmas.Bool.{cases_Bool, cases_lt, false≢true}
@@ -50,7 +51,8 @@ none-better player (w ∷ []) = All-cons (λ v. IsNoBetter player v w) w [] (no_
 none-better player (w ∷ v ∷ ws) =
     let rest : ℤ = best_of player (v ∷ ws) in
     All-cons (λ u. IsNoBetter player u (better player w rest)) w (v ∷ ws) (better-left player w rest)
-    (All-weaker (λ u. IsNoBetter player u rest) (λ u. IsNoBetter player u (better player w rest)) (λ u h. no_better-trans player u rest (better player w rest) h (better-right player w rest)) (v ∷ ws) (none-better player (v ∷ ws)))
+    (All-weaker (λ u. IsNoBetter player u rest) (λ u. IsNoBetter player u (better player w rest))
+    (λ u h. no_better-trans player u rest (better player w rest) h (better-right player w rest)) (v ∷ ws) (none-better player (v ∷ ws)))
 
 -- some worth is the best
 at_either : (w rest best : ℤ) (ws : List ℤ) (i : ℕ) → i < length ws → ((d : ℤ) → get_or ws i d ≡ rest)
@@ -91,7 +93,8 @@ at_later value w ws c differs h = record {
   earlier = λ k low high d.
       ⊎_elim
       (λ is. λ e. differs (ap (λ j. get_or (w ∷ ws) (j - 1) d) (sym is) ∙ e))
-      (λ more. let next : k - 1 ≡ suc (k - 1 - 1) = omega arith in λ e. h.earlier (k - 1) (omega arith) (omega arith) d (sym (ap (λ j. get_or (w ∷ ws) j d) next) ∙ e))
+      (λ more. let next : k - 1 ≡ suc (k - 1 - 1) = omega arith in λ e. h.earlier (k - 1) (omega arith) (omega arith) d
+      (sym (ap (λ j. get_or (w ∷ ws) j d) next) ∙ e))
       (one_or_more k low);
 }
   where
@@ -103,7 +106,8 @@ first_with-one : (value w : ℤ) (ws : List ℤ) → (w ≢ value → IsFirstPla
 first_with-one value w ws rest =
     ⊎_elim
     (λ yes. subst (λ b. IsFirstPlaceOf value (w ∷ ws) (cond b 1 (first_with value ws + 1))) (sym yes.0) (at_first value w ws yes.1))
-    (λ no. subst (λ b. IsFirstPlaceOf value (w ∷ ws) (cond b 1 (first_with value ws + 1))) (sym no.0) (at_later value w ws (first_with value ws) no.1 (rest no.1)))
+    (λ no. subst (λ b. IsFirstPlaceOf value (w ∷ ws) (cond b 1 (first_with value ws + 1))) (sym no.0)
+    (at_later value w ws (first_with value ws) no.1 (rest no.1)))
     (int_eq_tells w value)
 
 -- where some worth is the value, the place that is found is the first such one

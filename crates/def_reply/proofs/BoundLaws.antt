@@ -6,7 +6,8 @@ use Rattle.def_plan.specs.Plan.{pure_plan}
 use Rattle.def_plan.specs.Payoff.{pay, leaf_sum}
 use Rattle.def_plan.proofs.Sums.{gain_is_pay_one, gain_is_pay_two}
 use Rattle.def_reply.specs.Reply.{choices_of, best_reply, total}
-use Rattle.def_reply.specs.Laws.{TightRepliesGiveBounds, BestRepliesGiveBounds, AttainedBoundsAreBest, FloorsAreBelowCeilings, TightRepliesAreOptimal, BestRepliesAreOptimal}
+use Rattle.def_reply.specs.Laws.{TightRepliesGiveBounds, BestRepliesGiveBounds, AttainedBoundsAreBest, FloorsAreBelowCeilings, TightRepliesAreOptimal}
+use Rattle.def_reply.specs.Laws.{BestRepliesAreOptimal}
 use Rattle.def_reply.proofs.Optimal.{tight-bound, tight-is_plan, tight-gained, best-tight}
 
 -- tight replies bound every plan by their total, and the plan of their choices gains just that
@@ -26,16 +27,26 @@ pub tight_bounds : TightRepliesGiveBounds
 tight_bounds = record {
   floor = λ form x rs order t root y p.
       let e = gain_is_pay_two form.leaves form.sets_two x y p.all_sequences in
-      subst (λ z. (pos root *ℤ total (leaf_sum Two form.leaves x) form.sets_two rs) ≤ℤ z) e (tight-bound Two (leaf_sum Two form.leaves x) form.sets_two rs root y t p);
+      subst (λ z. (pos root *ℤ total (leaf_sum Two form.leaves x) form.sets_two rs) ≤ℤ z) e
+      (tight-bound Two (leaf_sum Two form.leaves x) form.sets_two rs root y t p);
   floor_attained = λ form x rs order t.
       let p = tight-is_plan Two (leaf_sum Two form.leaves x) form.sets_two rs order t in
-      record { is_plan = p; pays = sym (gain_is_pay_two form.leaves form.sets_two x (pure_plan form.sets_two (choices_of rs)) p.all_sequences) ∙ tight-gained Two (leaf_sum Two form.leaves x) form.sets_two rs order t };
+      record {
+        is_plan = p;
+        pays = sym (gain_is_pay_two form.leaves form.sets_two x (pure_plan form.sets_two (choices_of rs)) p.all_sequences)
+            ∙ tight-gained Two (leaf_sum Two form.leaves x) form.sets_two rs order t;
+      };
   ceiling = λ form y rs order t root x p.
       let e = gain_is_pay_one form.leaves form.sets_one x y p.all_sequences in
-      subst (λ z. z ≤ℤ (pos root *ℤ total (leaf_sum One form.leaves y) form.sets_one rs)) e (tight-bound One (leaf_sum One form.leaves y) form.sets_one rs root x t p);
+      subst (λ z. z ≤ℤ (pos root *ℤ total (leaf_sum One form.leaves y) form.sets_one rs)) e
+      (tight-bound One (leaf_sum One form.leaves y) form.sets_one rs root x t p);
   ceiling_attained = λ form y rs order t.
       let p = tight-is_plan One (leaf_sum One form.leaves y) form.sets_one rs order t in
-      record { is_plan = p; pays = sym (gain_is_pay_one form.leaves form.sets_one (pure_plan form.sets_one (choices_of rs)) y p.all_sequences) ∙ tight-gained One (leaf_sum One form.leaves y) form.sets_one rs order t };
+      record {
+        is_plan = p;
+        pays = sym (gain_is_pay_one form.leaves form.sets_one (pure_plan form.sets_one (choices_of rs)) y p.all_sequences)
+            ∙ tight-gained One (leaf_sum One form.leaves y) form.sets_one rs order t;
+      };
 }
 
 -- the totals of the best replies to a plan are its attained floor and ceiling

@@ -31,7 +31,8 @@ pub at_most-trans : (a b c : ℤ) (m n o : ℕ) → 1 ≤ n → (a *ℤ pos n) �
     → (a *ℤ pos o) ≤ℤ (c *ℤ pos m)
 at_most-trans a b c m n o some h k =
     let first : ((a *ℤ pos o) *ℤ pos n) ≤ℤ ((b *ℤ pos o) *ℤ pos m) =
-    subst (λ z. z ≤ℤ ((b *ℤ pos o) *ℤ pos m)) (times_turned a n o) (subst (λ z. ((a *ℤ pos n) *ℤ pos o) ≤ℤ z) (times_turned b m o) (*ℤ-mono_right o (a *ℤ pos n) (b *ℤ pos m) h))
+    subst (λ z. z ≤ℤ ((b *ℤ pos o) *ℤ pos m)) (times_turned a n o) (subst (λ z. ((a *ℤ pos n) *ℤ pos o) ≤ℤ z) (times_turned b m o)
+    (*ℤ-mono_right o (a *ℤ pos n) (b *ℤ pos m) h))
     in
     let second : ((b *ℤ pos o) *ℤ pos m) ≤ℤ ((c *ℤ pos m) *ℤ pos n) =
     subst (λ z. ((b *ℤ pos o) *ℤ pos m) ≤ℤ z) (times_turned c n m) (*ℤ-mono_right m (b *ℤ pos o) (c *ℤ pos n) k)

@@ -1,5 +1,6 @@
 -- The best reply solves its equations, and alone does.
-use Rattle.std.proofs.Common.{◌≡◌, ℕ, zero, suc, ◌+◌, ◌-◌, ◌≤◌, ◌<◌, Bool, false, cond, eqb, List, [], ◌∷◌, map, zip, filter, length, get_or, drop, ℤ, pos, ◌+ℤ◌, All, arith, ap, sym, ◌∙◌, refl, subst, ⊎_elim, ne_eqb}
+use Rattle.std.proofs.Common.{◌≡◌, ℕ, zero, suc, ◌+◌, ◌-◌, ◌≤◌, ◌<◌, Bool, false, cond, eqb, List, [], ◌∷◌, map, zip, filter, length, get_or, drop, ℤ, pos}
+use Rattle.std.proofs.Common.{◌+ℤ◌, All, arith, ap, sym, ◌∙◌, refl, subst, ⊎_elim, ne_eqb}
 use Rattle.std.specs.List.{AllZip}
 use Rattle.std.proofs.lemmas.Bool.{cases_lt}
 use Rattle.std.proofs.lemmas.List.FromFn.{get_or-map-range_with_len, length-map-range_with_len}
@@ -28,7 +29,9 @@ first_tight-same : (player : Player) (w w' : ℕ → ℤ) (from : ℕ) → ((s :
     → (h : PlacedSet) (r : SetReply) → from ≤ h.first → IsFirstTight player w h r → IsFirstTight player w' h r
 first_tight-same player w w' from same h r le f = record {
   tight = record {
-    no_better = All-range (λ s. IsNoBetter player (w' s) r.value) h.first h.actions (λ s low high. subst (λ z. IsNoBetter player z r.value) (same s (omega arith)) (range-All (λ s. IsNoBetter player (w s) r.value) h.first h.actions f.tight.no_better s low high));
+    no_better = All-range (λ s. IsNoBetter player (w' s) r.value) h.first h.actions
+        (λ s low high. subst (λ z. IsNoBetter player z r.value) (same s (omega arith))
+        (range-All (λ s. IsNoBetter player (w s) r.value) h.first h.actions f.tight.no_better s low high));
     an_action = f.tight.an_action;
     reached = sym (same (chosen h r.choice) (omega arith)) ∙ f.tight.reached;
   };
@@ -68,7 +71,8 @@ head-first_tight player w h some =
     record {
       tight = record {
         no_better = All-range (λ s. IsNoBetter player (w s) value) h.first h.actions
-            (λ s low high. subst (λ z. IsNoBetter player z value) (get_or-map-range_with_len w h.first h.actions (s - h.first) s (pos 0) (omega arith) (omega arith)) (none-better player worths (s - h.first) (pos 0) (omega arith)));
+            (λ s low high. subst (λ z. IsNoBetter player z value) (get_or-map-range_with_len w h.first h.actions (s - h.first) s (pos 0) (omega arith)
+            (omega arith)) (none-better player worths (s - h.first) (pos 0) (omega arith)));
         an_action = (f.some, omega (arith, f.within));
         reached = sym (at_choice w h (first_with value worths) (pos 0) f.some (omega (arith, f.within))) ∙ f.at (pos 0);
       };
@@ -84,15 +88,18 @@ value_best : (player : Player) (w : ℕ → ℤ) (h : PlacedSet) (r q : SetReply
     → IsTight player w h q → IsNoBetter player q.value r.value
 value_best player w h r q f g =
     let place = chosen-at h q.choice g.an_action.0 g.an_action.1 in
-    subst (λ z. IsNoBetter player z r.value) g.reached (range-All (λ s. IsNoBetter player (w s) r.value) h.first h.actions f.no_better (chosen h q.choice) place.0 place.1)
+    subst (λ z. IsNoBetter player z r.value) g.reached (range-All (λ s. IsNoBetter player (w s) r.value) h.first h.actions f.no_better (chosen h q.choice)
+    place.0 place.1)
 
 one_head : (player : Player) (w : ℕ → ℤ) (h : PlacedSet) (r q : SetReply) → IsFirstTight player w h r
     → IsFirstTight player w h q → r ≡ q
 one_head player w h r q f g =
-    let same_value : r.value ≡ q.value = no_better-antisym player r.value q.value (value_best player w h q r g.tight f.tight) (value_best player w h r q f.tight g.tight) in
+    let same_value : r.value ≡ q.value = no_better-antisym player r.value q.value (value_best player w h q r g.tight f.tight)
+    (value_best player w h r q f.tight g.tight) in
     let same_choice : r.choice ≡ q.choice =
     ⊎_elim (λ less. absurd (g.first r.choice f.tight.an_action.0 less (f.tight.reached ∙ same_value)))
-    (λ le. ⊎_elim (λ less. absurd (f.first q.choice g.tight.an_action.0 less (g.tight.reached ∙ sym same_value))) (λ ge. omega arith) (cases_lt q.choice r.choice))
+    (λ le. ⊎_elim (λ less. absurd (f.first q.choice g.tight.an_action.0 less (g.tight.reached ∙ sym same_value))) (λ ge. omega arith)
+    (cases_lt q.choice r.choice))
     (cases_lt r.choice q.choice)
     in
     λ i. record { value = same_value i; choice = same_choice i }
@@ -101,7 +108,8 @@ one_head player w h r q f g =
 -- where sets with sequences from `first` on are in order, each one's reply is tight, and no earlier choice would be
 pub solves_from : (player : Player) (sums : ℕ → ℤ) (first : ℕ) (hs : List InformationSet)
     → All IsInOrder (placed_from first hs)
-    → AllZip (IsFirstTight player (worth sums (placed_from first hs) (values_of (replies_at player sums (placed_from first hs))))) (placed_from first hs) (replies_at player sums (placed_from first hs))
+    → AllZip (IsFirstTight player (worth sums (placed_from first hs) (values_of (replies_at player sums (placed_from first hs))))) (placed_from first hs)
+    (replies_at player sums (placed_from first hs))
 solves_from player sums first [] order = tt
 solves_from player sums first (h ∷ hs) order =
     let here : PlacedSet = record { first = first; before = h.before; actions = h.actions } in
@@ -109,9 +117,12 @@ solves_from player sums first (h ∷ hs) order =
     let ordered = All-head IsInOrder here rest order in
     let rs : List SetReply = replies_at player sums rest in
     let r : SetReply = reply_at_set player (worth sums rest (values_of rs)) here in
-    let same : (s : ℕ) → first ≤ s → worth sums rest (values_of rs) s ≡ worth sums (here ∷ rest) (r.value ∷ values_of rs) s = λ s le. sym (worth-later sums here rest r.value (values_of rs) s (omega arith)) in (
-      first_tight-same player (worth sums rest (values_of rs)) (worth sums (here ∷ rest) (r.value ∷ values_of rs)) first same here r (omega arith) (head-first_tight player (worth sums rest (values_of rs)) here ordered.0),
-      all_same player (worth sums rest (values_of rs)) (worth sums (here ∷ rest) (r.value ∷ values_of rs)) first same (first + h.actions) hs rs (omega arith) (solves_from player sums (first + h.actions) hs (All-tail IsInOrder here rest order)),
+    let same : (s : ℕ) → first ≤ s → worth sums rest (values_of rs) s ≡ worth sums (here ∷ rest) (r.value ∷ values_of rs) s = λ s le. sym
+    (worth-later sums here rest r.value (values_of rs) s (omega arith)) in (
+      first_tight-same player (worth sums rest (values_of rs)) (worth sums (here ∷ rest) (r.value ∷ values_of rs)) first same here r (omega arith)
+          (head-first_tight player (worth sums rest (values_of rs)) here ordered.0),
+      all_same player (worth sums rest (values_of rs)) (worth sums (here ∷ rest) (r.value ∷ values_of rs)) first same (first + h.actions) hs rs (omega arith)
+          (solves_from player sums (first + h.actions) hs (All-tail IsInOrder here rest order)),
     )
 
 -- replies that solve the equations are the best ones, from any first sequence on
@@ -129,8 +140,10 @@ only_from player sums first (h ∷ hs) (r ∷ rs) order f =
     let w : ℕ → ℤ = worth sums rest (values_of rs) in
     let w' : ℕ → ℤ = worth sums (here ∷ rest) (r.value ∷ values_of rs) in
     let same : (s : ℕ) → first ≤ s → w' s ≡ w s = λ s le. worth-later sums here rest r.value (values_of rs) s (omega arith) in
-    let later : rs ≡ replies_at player sums rest = only_from player sums (first + h.actions) hs rs (All-tail IsInOrder here rest order) (all_same player w' w first same (first + h.actions) hs rs (omega arith) f.1) in
-    let head : r ≡ reply_at_set player w here = one_head player w here r (reply_at_set player w here) (first_tight-same player w' w first same here r (omega arith) f.0) (head-first_tight player w here ordered.0) in
+    let later : rs ≡ replies_at player sums rest = only_from player sums (first + h.actions) hs rs (All-tail IsInOrder here rest order)
+    (all_same player w' w first same (first + h.actions) hs rs (omega arith) f.1) in
+    let head : r ≡ reply_at_set player w here = one_head player w here r (reply_at_set player w here)
+    (first_tight-same player w' w first same here r (omega arith) f.0) (head-first_tight player w here ordered.0) in
     ap (λ q. q ∷ rs) head ∙ ap (λ qs. reply_at_set player (worth sums rest (values_of qs)) here ∷ qs) later
 
 -- the best reply from a set on is the reply at those sets alone

@@ -1,5 +1,6 @@
 -- The evaluated rounds.
-use Rattle.std.proofs.Common.{◌≡◌, ℕ, zero, suc, ◌+◌, ◌-◌, ◌*◌, ◌/◌, ◌%◌, ◌≤◌, ◌<◌, min, ◌⊎◌, inl, inr, ◌↔◌, Bool, true, false, cond, ◌||◌, eqb, List, [], ◌∷◌, map, length, get_or, filter, Contains, arith, ap, sym, ◌∙◌, refl, ⊎_elim, eq-eqb, eqb-true}
+use Rattle.std.proofs.Common.{◌≡◌, ℕ, zero, suc, ◌+◌, ◌-◌, ◌*◌, ◌/◌, ◌%◌, ◌≤◌, ◌<◌, min, ◌⊎◌, inl, inr, ◌↔◌, Bool, true, false, cond, ◌||◌, eqb, List, [], ◌∷◌}
+use Rattle.std.proofs.Common.{map, length, get_or, filter, Contains, arith, ap, sym, ◌∙◌, refl, ⊎_elim, eq-eqb, eqb-true}
 use Rattle.std.proofs.Math.Nat.{mul-le-mul_right, mul-mod_left}
 use Rattle.std.specs.List.{range_with_len}
 use Rattle.std.specs.List.Sorted.{IsStrictlyIncreasing}
@@ -43,7 +44,8 @@ which every last k = (
       let p = is_evaluated every last in
       let rounds = range_with_len 1 last in
       let low = All-contains (λ j. 1 ≤ j) (filter p rounds) k (All-filter p (λ j. 1 ≤ j) rounds (All-range (λ j. 1 ≤ j) 1 last (λ j l h. l))) c in
-      let high = All-contains (λ j. j ≤ last) (filter p rounds) k (All-filter p (λ j. j ≤ last) rounds (All-range (λ j. j ≤ last) 1 last (λ j l h. omega arith))) c in
+      let high = All-contains (λ j. j ≤ last) (filter p rounds) k (All-filter p (λ j. j ≤ last) rounds
+      (All-range (λ j. j ≤ last) 1 last (λ j l h. omega arith))) c in
       let pass = All-contains (λ j. p j ≡ true) (filter p rounds) k (filter_passes p rounds) c in
       (low, high, ⊎_elim (λ e. inl (eqb-true (k % every) 0 e)) (λ e. inr (eqb-true k last e)) (either_true (eqb (k % every) 0) (eqb k last) pass)),
   λ h.
@@ -77,7 +79,8 @@ listed every last k some c =
     let positive : 1 ≤ (1 + p) * every = omega arith in (
       omega arith,
       omega arith,
-      ⊎_elim (λ less. let whole : (1 + p) * every ≡ k = omega arith in inl (ap (λ n. n % every) (sym whole) ∙ mul-mod_left (1 + p) every)) (λ le. inr (omega arith)) (cases_lt ((1 + p) * every) last),
+      ⊎_elim (λ less. let whole : (1 + p) * every ≡ k = omega arith in inl (ap (λ n. n % every) (sym whole) ∙ mul-mod_left (1 + p) every))
+          (λ le. inr (omega arith)) (cases_lt ((1 + p) * every) last),
     )
 
 reached : (every last k : ℕ) → 1 ≤ every → (1 ≤ k) × (k ≤ last) × ((k % every ≡ 0) ⊎ (k ≡ last))
@@ -87,18 +90,25 @@ reached every last k some h =
   where
     at : (i : ℕ) → 1 ≤ i → i ≤ how_many every last → round_at every last i ≡ k
         → Contains (map (round_at every last) (range_with_len 1 (how_many every last))) k
-    at i low high is = (i - 1, omega (arith, length-map-range_with_len (round_at every last) 1 (how_many every last)), get_or-map-range_with_len (round_at every last) 1 (how_many every last) (i - 1) i k (omega arith) (omega arith) ∙ is)
+    at i low high is = (
+      i - 1,
+      omega (arith, length-map-range_with_len (round_at every last) 1 (how_many every last)),
+      get_or-map-range_with_len (round_at every last) 1 (how_many every last) (i - 1) i k (omega arith) (omega arith) ∙ is,
+    )
 
     whole : k % every ≡ 0 → Contains (map (round_at every last) (range_with_len 1 (how_many every last))) k
     whole e =
         let times : k / every * every ≡ k = omega arith in
-        let some_time : 1 ≤ k / every = ⊎_elim (λ less. let none : k / every ≡ 0 = omega arith in absurd (omega (arith, h.0, ap (λ n. n * every) none))) (λ le. le) (cases_lt (k / every) 1) in
-        let in_time : k / every ≤ how_many every last = ⊎_elim (λ less. absurd (omega (arith, h.1, enough every last some, mul-le-mul_right every less))) (λ le. le) (cases_lt (how_many every last) (k / every)) in
+        let some_time : 1 ≤ k / every = ⊎_elim (λ less. let none : k / every ≡ 0 = omega arith in absurd (omega (arith, h.0, ap (λ n. n * every) none)))
+        (λ le. le) (cases_lt (k / every) 1) in
+        let in_time : k / every ≤ how_many every last = ⊎_elim (λ less. absurd (omega (arith, h.1, enough every last some, mul-le-mul_right every less)))
+        (λ le. le) (cases_lt (how_many every last) (k / every)) in
         at (k / every) some_time in_time (omega (arith, h.1))
 
     ends : k ≡ last → Contains (map (round_at every last) (range_with_len 1 (how_many every last))) k
     ends e =
-        let some_time : 1 ≤ how_many every last = ⊎_elim (λ less. let none : how_many every last ≡ 0 = omega arith in absurd (omega (arith, h.0, enough every last some, ap (λ n. n * every) none))) (λ le. le) (cases_lt (how_many every last) 1) in
+        let some_time : 1 ≤ how_many every last = ⊎_elim (λ less. let none : how_many every last
+        ≡ 0 = omega arith in absurd (omega (arith, h.0, enough every last some, ap (λ n. n * every) none))) (λ le. le) (cases_lt (how_many every last) 1) in
         at (how_many every last) some_time (omega arith) (omega (arith, enough every last some))
 
 listed_up : (every last : ℕ) → 1 ≤ every

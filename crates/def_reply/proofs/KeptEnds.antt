@@ -1,5 +1,6 @@
 -- The board that offers leave has the trace and the ends of their evaluations.
-use Rattle.std.proofs.Common.{◌≡◌, ℕ, suc, Bool, true, false, cond, map, pos, ◌*ℤ◌, List, [], ◌∷◌, ◌++◌, length, get_or, fold, arith, ap, sym, ◌∙◌, refl, subst, Option, Some, None, append_assoc, length-append}
+use Rattle.std.proofs.Common.{◌≡◌, ℕ, suc, Bool, true, false, cond, map, pos, ◌*ℤ◌, List, [], ◌∷◌, ◌++◌, length, get_or, fold, arith, ap, sym, ◌∙◌, refl, subst}
+use Rattle.std.proofs.Common.{Option, Some, None, append_assoc, length-append}
 use Rattle.std.specs.Prelude.{int_lt, ◌↔◌}
 use Rattle.std.proofs.lemmas.Option.{none-some}
 use Rattle.std.proofs.lemmas.List.{append-nil, get_or_append_left, get_or_at}
@@ -82,7 +83,8 @@ same_line offers d round ends lower upper from_lower from_upper =
 -- one more offer
 one_more : (offers : List Offer) (next : Offer) (ends : BracketEnds) (lines : List TraceLine) (board : Board)
     → IsBoardOf offers ends lines board
-    → IsBoardOf (offers ++ next ∷ []) (next_ends ends (evaluation_of_offer next)) (lines ++ trace_line next.round (next_ends ends (evaluation_of_offer next)) ∷ []) (offered board next)
+    → IsBoardOf (offers ++ next ∷ []) (next_ends ends (evaluation_of_offer next))
+    (lines ++ trace_line next.round (next_ends ends (evaluation_of_offer next)) ∷ []) (offered board next)
 unfolding line_of
 one_more offers next ends lines board b =
     let e : Evaluation = evaluation_of_offer next in
@@ -104,7 +106,8 @@ one_more offers next ends lines board b =
       upper = upper;
       is =
           ap (λ k. offered k next) b.is
-          ∙ ap (λ t. board_with lines next.round (cond t (lower_of next) b.lower) (cond (int_lt (e.high *ℤ pos b.upper.divisor) (b.upper.reply.total *ℤ pos e.divisor)) (upper_of next) b.upper)) same_lower
+          ∙ ap (λ t. board_with lines next.round (cond t (lower_of next) b.lower)
+          (cond (int_lt (e.high *ℤ pos b.upper.divisor) (b.upper.reply.total *ℤ pos e.divisor)) (upper_of next) b.upper)) same_lower
           ∙ ap (λ t. board_with lines next.round lower (cond t (upper_of next) b.upper)) same_upper
           ∙ ap (λ x. record { trace = lines ++ x ∷ []; lower = Some lower; upper = Some upper }) line;
       lower_from = from_lower;
@@ -113,7 +116,8 @@ one_more offers next ends lines board b =
 
 all_more : (offers : List Offer) (later : List Offer) (ends : BracketEnds) (lines : List TraceLine) (board : Board)
     → IsBoardOf offers ends lines board
-    → IsBoardOf (offers ++ later) (fold next_ends ends (map evaluation_of_offer later)) (lines ++ trace_after ends (map evaluation_of_offer later)) (fold offered board later)
+    → IsBoardOf (offers ++ later) (fold next_ends ends (map evaluation_of_offer later)) (lines ++ trace_after ends (map evaluation_of_offer later))
+    (fold offered board later)
 all_more offers [] ends lines board b =
     subst (λ xs. IsBoardOf xs ends (lines ++ []) board) (sym (append-nil offers)) (subst (λ ls. IsBoardOf offers ends ls board) (sym (append-nil lines)) b)
 all_more offers (next ∷ later) ends lines board b =
@@ -121,13 +125,16 @@ all_more offers (next ∷ later) ends lines board b =
     let ends' : BracketEnds = next_ends ends e in
     let line : TraceLine = trace_line next.round ends' in
     let rest = all_more (offers ++ next ∷ []) later ends' (lines ++ line ∷ []) (offered board next) (one_more offers next ends lines board b) in
-    subst (λ xs. IsBoardOf xs (fold next_ends ends' (map evaluation_of_offer later)) (lines ++ (line ∷ trace_after ends' (map evaluation_of_offer later))) (fold offered (offered board next) later))
+    subst (λ xs. IsBoardOf xs (fold next_ends ends' (map evaluation_of_offer later)) (lines ++ (line ∷ trace_after ends' (map evaluation_of_offer later)))
+    (fold offered (offered board next) later))
     (append_assoc offers (next ∷ []) later)
-    (subst (λ ls. IsBoardOf ((offers ++ next ∷ []) ++ later) (fold next_ends ends' (map evaluation_of_offer later)) ls (fold offered (offered board next) later))
+    (subst (λ ls. IsBoardOf ((offers ++ next ∷ []) ++ later) (fold next_ends ends' (map evaluation_of_offer later)) ls
+    (fold offered (offered board next) later))
     (append_assoc lines (line ∷ []) (trace_after ends' (map evaluation_of_offer later))) rest)
 
 after_some : (o : Offer) (later : List Offer)
-    → IsBoardOf (o ∷ later) (fold next_ends (first_ends (evaluation_of_offer o)) (map evaluation_of_offer later)) (trace (map evaluation_of_offer (o ∷ later))) (board_after (o ∷ later))
+    → IsBoardOf (o ∷ later) (fold next_ends (first_ends (evaluation_of_offer o)) (map evaluation_of_offer later)) (trace (map evaluation_of_offer (o ∷ later)))
+    (board_after (o ∷ later))
 after_some o later =
     all_more (o ∷ []) later (first_ends (evaluation_of_offer o)) (trace_line o.round (first_ends (evaluation_of_offer o)) ∷ []) (offered new_board o) (record {
       lower = lower_of o;
@@ -147,7 +154,8 @@ pub offers_keep_the_ends : OffersKeepTheEnds
 offers_keep_the_ends [] ends is = absurd (none-some ends is)
 offers_keep_the_ends (o ∷ later) ends is =
     let b = after_some o later in
-    let same : fold next_ends (first_ends (evaluation_of_offer o)) (map evaluation_of_offer later) ≡ ends = ends-are (fold next_ends (first_ends (evaluation_of_offer o)) (map evaluation_of_offer later)) ends is in
+    let same : fold next_ends (first_ends (evaluation_of_offer o)) (map evaluation_of_offer later)
+    ≡ ends = ends-are (fold next_ends (first_ends (evaluation_of_offer o)) (map evaluation_of_offer later)) ends is in
     record {
       lower = b.lower;
       upper = b.upper;
@@ -180,9 +188,11 @@ first_offer_makes_ends = record { lower = lower; upper = upper }
 pub fair_offers_have_bounds : FairOffersHaveBounds
 fair_offers_have_bounds form last offer order_one order_two fair = record {
   floor = subst (λ (r : Reply). IsFloor form offer.plan_one r.total) (sym fair.against_one) (best_bounds.floor form offer.plan_one order_two);
-  floor_attained = subst (λ (r : Reply). AttainsFloor form offer.plan_one r.total (pure_plan form.sets_two (choices_of r.sets))) (sym fair.against_one) (best_bounds.floor_attained form offer.plan_one order_two);
+  floor_attained = subst (λ (r : Reply). AttainsFloor form offer.plan_one r.total (pure_plan form.sets_two (choices_of r.sets))) (sym fair.against_one)
+      (best_bounds.floor_attained form offer.plan_one order_two);
   ceiling = subst (λ (r : Reply). IsCeiling form offer.plan_two r.total) (sym fair.against_two) (best_bounds.ceiling form offer.plan_two order_one);
-  ceiling_attained = subst (λ (r : Reply). AttainsCeiling form offer.plan_two r.total (pure_plan form.sets_one (choices_of r.sets))) (sym fair.against_two) (best_bounds.ceiling_attained form offer.plan_two order_one);
+  ceiling_attained = subst (λ (r : Reply). AttainsCeiling form offer.plan_two r.total (pure_plan form.sets_one (choices_of r.sets))) (sym fair.against_two)
+      (best_bounds.ceiling_attained form offer.plan_two order_one);
 }
 
 or : Option KeptEnd → KeptEnd → KeptEnd
@@ -200,11 +210,15 @@ kept_ends_are_bounds form (o ∷ later) lower upper order_one order_two fair at_
     let b = after_some o later in
     let low = fair_offers_have_bounds form 0 (get_or (o ∷ later) b.lower_from.place o) order_one order_two (fair b.lower_from.place o b.lower_from.within) in
     let high = fair_offers_have_bounds form 0 (get_or (o ∷ later) b.upper_from.place o) order_one order_two (fair b.upper_from.place o b.upper_from.within) in
-    let is_lower : lower_of (get_or (o ∷ later) b.lower_from.place o) ≡ lower = b.lower_from.is_kept o ∙ is_some b.lower lower (sym (ap (λ (k : Board). k.lower) b.is) ∙ at_lower) in
-    let is_upper : upper_of (get_or (o ∷ later) b.upper_from.place o) ≡ upper = b.upper_from.is_kept o ∙ is_some b.upper upper (sym (ap (λ (k : Board). k.upper) b.is) ∙ at_upper) in
+    let is_lower : lower_of (get_or (o ∷ later) b.lower_from.place o) ≡ lower = b.lower_from.is_kept o
+    ∙ is_some b.lower lower (sym (ap (λ (k : Board). k.lower) b.is) ∙ at_lower) in
+    let is_upper : upper_of (get_or (o ∷ later) b.upper_from.place o) ≡ upper = b.upper_from.is_kept o
+    ∙ is_some b.upper upper (sym (ap (λ (k : Board). k.upper) b.is) ∙ at_upper) in
     record {
       floor = subst (λ (k : KeptEnd). IsFloor form k.plan k.reply.total) is_lower low.floor;
-      floor_attained = subst (λ (k : KeptEnd). AttainsFloor form k.plan k.reply.total (pure_plan form.sets_two (choices_of k.reply.sets))) is_lower low.floor_attained;
+      floor_attained = subst (λ (k : KeptEnd). AttainsFloor form k.plan k.reply.total (pure_plan form.sets_two (choices_of k.reply.sets))) is_lower
+          low.floor_attained;
       ceiling = subst (λ (k : KeptEnd). IsCeiling form k.plan k.reply.total) is_upper high.ceiling;
-      ceiling_attained = subst (λ (k : KeptEnd). AttainsCeiling form k.plan k.reply.total (pure_plan form.sets_one (choices_of k.reply.sets))) is_upper high.ceiling_attained;
+      ceiling_attained = subst (λ (k : KeptEnd). AttainsCeiling form k.plan k.reply.total (pure_plan form.sets_one (choices_of k.reply.sets))) is_upper
+          high.ceiling_attained;
     }

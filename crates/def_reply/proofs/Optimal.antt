@@ -39,7 +39,8 @@ only_tight player w plan [] [] t f = t
 only_tight player w plan [] (r ∷ rs) t f = t
 only_tight player w plan (h ∷ hs) [] t f = t
 only_tight player w plan (h ∷ hs) (r ∷ rs) t f = (
-  λ k d low. only_chosen w r.value (slice_index plan h.before) (get_or (sequences_of h) k d) (chosen h r.choice) (slice_index plan (get_or (sequences_of h) k d)) t.0.reached (f.0 k d low),
+  λ k d low. only_chosen w r.value (slice_index plan h.before) (get_or (sequences_of h) k d) (chosen h r.choice)
+      (slice_index plan (get_or (sequences_of h) k d)) t.0.reached (f.0 k d low),
   only_tight player w plan hs rs t.1 f.1,
 )
 
@@ -80,4 +81,5 @@ tight_of_first player w (h ∷ hs) (r ∷ rs) f = (f.0.tight, tight_of_first pla
 pub best-tight : (player : Player) (sums : ℕ → ℤ) (sets : List InformationSet) → AreInOrder sets
     → AreTight player sums sets (best_reply player sums sets)
 best-tight player sums sets order =
-    tight_of_first player (worth sums (placed sets) (values_of (best_reply player sums sets))) (placed sets) (best_reply player sums sets) (solves_from player sums 1 sets order)
+    tight_of_first player (worth sums (placed sets) (values_of (best_reply player sums sets))) (placed sets) (best_reply player sums sets)
+    (solves_from player sums 1 sets order)

@@ -22,8 +22,10 @@ replies_same player sums other first (h ∷ hs) agree =
     let rest : List PlacedSet = placed_from (first + h.actions) hs in
     let later = replies_same player sums other (first + h.actions) hs (λ s low. agree s (omega arith)) in
     let reply : List SetReply → (ℕ → ℤ) → List SetReply =
-    λ (rs : List SetReply) (g : ℕ → ℤ). (let worths : List ℤ = map (worth g rest (values_of rs)) (sequences_of here) in record { value = best_of player worths; choice = first_with (best_of player worths) worths } ∷ rs) in
-    let worths_same : map (worth sums rest (values_of (replies_at player other rest))) (sequences_of here) ≡ map (worth other rest (values_of (replies_at player other rest))) (sequences_of here) =
+    λ (rs : List SetReply) (g : ℕ → ℤ). (let worths : List ℤ = map (worth g rest (values_of rs))
+    (sequences_of here) in record { value = best_of player worths; choice = first_with (best_of player worths) worths } ∷ rs) in
+    let worths_same : map (worth sums rest (values_of (replies_at player other rest))) (sequences_of here)
+    ≡ map (worth other rest (values_of (replies_at player other rest))) (sequences_of here) =
     map-range_same (worth sums rest (values_of (replies_at player other rest))) (worth other rest (values_of (replies_at player other rest))) first h.actions
     (λ s low high. worth_same sums other rest (values_of (replies_at player other rest)) s (agree s (omega arith))) in
     ap (λ rs. reply rs sums) later
@@ -36,7 +38,8 @@ tight_same player f g h r same t =
     let place = chosen-at h r.choice t.an_action.0 t.an_action.1 in
     record {
       no_better = All-range (λ s. IsNoBetter player (g s) r.value) h.first h.actions
-          (λ s low high. subst (λ w. IsNoBetter player w r.value) (same s low high) (range-All (λ s. IsNoBetter player (f s) r.value) h.first h.actions t.no_better s low high));
+          (λ s low high. subst (λ w. IsNoBetter player w r.value) (same s low high)
+          (range-All (λ s. IsNoBetter player (f s) r.value) h.first h.actions t.no_better s low high));
       an_action = t.an_action;
       reached = sym (same (chosen h r.choice) place.0 place.1) ∙ t.reached;
     }

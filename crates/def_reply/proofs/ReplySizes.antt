@@ -22,7 +22,12 @@ use Rattle.def_reply.proofs.Equations.{reply_at_set, head-first_tight, chosen-at
 worth-size : (sums : ℕ → ℤ) (hs : List PlacedSet) (vs : List ℤ) (s : ℕ)
     → unsigned_abs (worth sums hs vs s) ≤ unsigned_abs (sums s) + hanging_size s (zip hs vs)
 worth-size sums hs vs s =
-    omega (arith, unsigned_abs-+ℤ (sums s) (values_after hs vs s), unsigned_abs-sum_over (λ (p : PlacedSet × ℤ). p.1) (filter (λ p. eqb p.0.before s) (zip hs vs)))
+    omega (
+      arith,
+      unsigned_abs-+ℤ (sums s) (values_after hs vs s),
+      unsigned_abs-sum_over (λ (p : PlacedSet × ℤ). p.1)
+          (filter (λ p. eqb p.0.before s) (zip hs vs)),
+    )
 
 pub record Bounded (player : Player) (sums : ℕ → ℤ) (first : ℕ) (hs : List InformationSet) : Type 0 where
   pub hangs : hanging first (zip (placed_from first hs) (values_of (replies_at player sums (placed_from first hs)))) ≤ from sums first hs
@@ -43,15 +48,19 @@ bounded player sums first (h ∷ hs) order =
     let best : ℕ = chosen here r.choice in
     let place = chosen-at here r.choice tight.an_action.0 tight.an_action.1 in
     let of_value : unsigned_abs r.value ≤ unsigned_abs (sums best) + hanging_size best (zip rest (values_of rs)) =
-    subst (λ z. unsigned_abs z ≤ unsigned_abs (sums best) + hanging_size best (zip rest (values_of rs))) tight.reached (worth-size sums rest (values_of rs) best)
+    subst (λ z. unsigned_abs z ≤ unsigned_abs (sums best) + hanging_size best (zip rest (values_of rs))) tight.reached
+    (worth-size sums rest (values_of rs) best)
     in
-    let of_sum : unsigned_abs (sums best) ≤ nat_sum_over (λ s. unsigned_abs (sums s)) (range_with_len first h.actions) = at_most_sum (λ s. unsigned_abs (sums s)) first h.actions best place.0 place.1 in
-    let joined : hanging_size best (zip rest (values_of rs)) + hanging first (zip rest (values_of rs)) ≤ hanging (first + h.actions) (zip rest (values_of rs)) = after-hanging best first (first + h.actions) (zip rest (values_of rs)) place.0 place.1 in
+    let of_sum : unsigned_abs (sums best) ≤ nat_sum_over (λ s. unsigned_abs (sums s)) (range_with_len first h.actions) = at_most_sum
+    (λ s. unsigned_abs (sums s)) first h.actions best place.0 place.1 in
+    let joined : hanging_size best (zip rest (values_of rs)) + hanging first (zip rest (values_of rs))
+    ≤ hanging (first + h.actions) (zip rest (values_of rs)) = after-hanging best first (first + h.actions) (zip rest (values_of rs)) place.0 place.1 in
     let all : unsigned_abs r.value + hanging first (zip rest (values_of rs)) ≤ from sums first (h ∷ hs) = omega (arith, from-cons sums first h hs, ih.hangs) in
     record {
       hangs = omega (arith, after-first h.before first (unsigned_abs r.value) ordered.1);
       values = All-cons (λ q. unsigned_abs q.value ≤ from sums first (h ∷ hs)) r rs (omega arith)
-          (All-weaker (λ q. unsigned_abs q.value ≤ from sums (first + h.actions) hs) (λ q. unsigned_abs q.value ≤ from sums first (h ∷ hs)) (λ q le. omega (arith, from-cons sums first h hs)) rs ih.values);
+          (All-weaker (λ q. unsigned_abs q.value ≤ from sums (first + h.actions) hs) (λ q. unsigned_abs q.value ≤ from sums first (h ∷ hs))
+          (λ q le. omega (arith, from-cons sums first h hs)) rs ih.values);
     }
 
 -- no value of a best reply is larger than the leaf sums together
@@ -74,7 +83,8 @@ worth_at player sums first (h ∷ hs) s order low high =
     let rs : List SetReply = replies_at player sums rest in
     let r : SetReply = reply_at_set player (worth sums rest (values_of rs)) here in
     let skips : hanging_size s (zip (here ∷ rest) (r.value ∷ values_of rs)) ≡ hanging_size s (zip rest (values_of rs)) =
-    kept (eqb h.before s) (here, r.value) (filter (λ p. eqb p.0.before s) (zip rest (values_of rs))) ∙ not_here h.before s (unsigned_abs r.value) (hanging_size s (zip rest (values_of rs))) (omega arith)
+    kept (eqb h.before s) (here, r.value) (filter (λ p. eqb p.0.before s) (zip rest (values_of rs)))
+    ∙ not_here h.before s (unsigned_abs r.value) (hanging_size s (zip rest (values_of rs))) (omega arith)
     in
     ⊎_elim
     (λ inside.
@@ -92,14 +102,21 @@ worth_at player sums first (h ∷ hs) s order low high =
 -- the parts of a sequence's worth are together no larger than the leaf sums
 pub worths-below : (player : Player) (sums : ℕ → ℤ) (sets : List InformationSet) (s : ℕ) → AreInOrder sets
     → s < sequence_count sets
-    → unsigned_abs (sums s) + nat_sum_over (λ p. unsigned_abs p.1) (filter (λ p. eqb p.0.before s) (zip (placed sets) (values_of (best_reply player sums sets))))
+    → unsigned_abs (sums s) + nat_sum_over (λ p. unsigned_abs p.1) (filter (λ p. eqb p.0.before s)
+    (zip (placed sets) (values_of (best_reply player sums sets))))
     ≤ nat_sum_over (λ s. unsigned_abs (sums s)) (sequences sets)
 worths-below player sums sets s order low =
     ⊎_elim
     (λ empty.
     let none : s ≡ 0 = omega arith in
     let same : unsigned_abs (sums s) ≡ unsigned_abs (sums 0) = ap (λ t. unsigned_abs (sums t)) none in
-    omega (arith, same, all_sums sums sets, (bounded player sums 1 sets order).hangs, after-hanging s 0 1 (zip (placed sets) (values_of (best_reply player sums sets))) (omega arith) empty))
+    omega (
+      arith,
+      same,
+      all_sums sums sets,
+      (bounded player sums 1 sets order).hangs,
+      after-hanging s 0 1 (zip (placed sets) (values_of (best_reply player sums sets))) (omega arith) empty,
+    ))
     (λ some. omega (arith, all_sums sums sets, worth_at player sums 1 sets s order some low))
     (cases_lt s 1)
 
@@ -114,8 +131,18 @@ pub bounds_small : BoundsAreSmall
 bounds_small = record {
   floor = λ form root x order order' p small_mass small_root.
       let sums : ℕ → ℤ = leaf_sum Two form.leaves x in
-      omega (arith, total-below Two sums form.sets_two order', leaf_sums-below Two form.leaves form.sets_two form.sets_one root x order p, of_an_evaluation form.leaves root small_mass small_root);
+      omega (
+        arith,
+        total-below Two sums form.sets_two order',
+        leaf_sums-below Two form.leaves form.sets_two form.sets_one root x order p,
+        of_an_evaluation form.leaves root small_mass small_root,
+      );
   ceiling = λ form root y order order' p small_mass small_root.
       let sums : ℕ → ℤ = leaf_sum One form.leaves y in
-      omega (arith, total-below One sums form.sets_one order, leaf_sums-below One form.leaves form.sets_one form.sets_two root y order' p, of_an_evaluation form.leaves root small_mass small_root);
+      omega (
+        arith,
+        total-below One sums form.sets_one order,
+        leaf_sums-below One form.leaves form.sets_one form.sets_two root y order' p,
+        of_an_evaluation form.leaves root small_mass small_root,
+      );
 }

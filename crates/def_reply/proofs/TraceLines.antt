@@ -1,11 +1,13 @@
 -- The trace, line by line.
-use Rattle.std.proofs.Common.{◌≡◌, ℕ, zero, suc, ◌+◌, ◌≤◌, ◌<◌, Bool, true, false, cond, map, All, slice_index, pos, ◌*ℤ◌, List, [], ◌∷◌, ◌++◌, length, get_or, take, fold, arith, ap, sym, ◌∙◌, refl, subst, Some, add-one}
+use Rattle.std.proofs.Common.{◌≡◌, ℕ, zero, suc, ◌+◌, ◌≤◌, ◌<◌, Bool, true, false, cond, map, All, slice_index, pos, ◌*ℤ◌, List, [], ◌∷◌, ◌++◌, length, get_or}
+use Rattle.std.proofs.Common.{take, fold, arith, ap, sym, ◌∙◌, refl, subst, Some, add-one}
 use Rattle.std.proofs.lemmas.Option.{none-some}
 use Rattle.std.proofs.lemmas.List.{get_or-take, length-take-le, take-take}
 use Rattle.std.specs.Prelude.{◌≤ℤ◌, int_lt}
 use Rattle.std.specs.List.Sorted.{IsStrictlyIncreasing}
 use Rattle.std.proofs.lemmas.List.Elements.{All-take, All-nil, All-cons, All-head, All-tail}
-use Rattle.def_reply.specs.Bracket.{Evaluation, BracketEnds, HasFloorAtMost, HasCeilingAtMost, next_ends, first_ends, ends_of, trace_line, trace_after, trace, LiesWithinBy}
+use Rattle.def_reply.specs.Bracket.{Evaluation, BracketEnds, HasFloorAtMost, HasCeilingAtMost, next_ends, first_ends, ends_of, trace_line, trace_after, trace}
+use Rattle.def_reply.specs.Bracket.{LiesWithinBy}
 use Rattle.def_reply.specs.declared.TraceLine.{TraceLine}
 use Rattle.def_reply.specs.BracketLaws.{HaveDivisors, DivideBy, AreNoWorse, EndsNeverWorsen, TraceHasALineForEach, TraceNeverWidens, LooksBack, TraceLooksBack}
 use Rattle.def_reply.proofs.BestEnds.{ends-are, best_ends}
@@ -36,7 +38,8 @@ goes_on [] ends e is = absurd (none-some ends is)
 goes_on (a ∷ es) ends e is =
     let now : fold next_ends (first_ends a) es ≡ ends = ends-are (fold next_ends (first_ends a) es) ends is in (
       ap Some (on_ends (first_ends a) es e) ∙ ap (λ k. Some (next_ends k e)) now,
-      ap (λ ls. trace_line a.round (first_ends a) ∷ ls) (on_trace (first_ends a) es e ∙ ap (λ k. trace_after (first_ends a) es ++ trace_line e.round (next_ends k e) ∷ []) now),
+      ap (λ ls. trace_line a.round (first_ends a) ∷ ls) (on_trace (first_ends a) es e
+          ∙ ap (λ k. trace_after (first_ends a) es ++ trace_line e.round (next_ends k e) ∷ []) now),
     )
 
 each_after : (ends : BracketEnds) (es : List Evaluation) (k : ℕ) (line : TraceLine) (d : Evaluation) → k < length es
@@ -80,8 +83,10 @@ ends_never_worsen es j k a b divisors le fits at_j at_k =
     λ p x less is. sym (get_or-take j later p x (omega arith)) ∙ ap (λ xs. get_or xs p x) part ∙ is
     in
     record {
-      lower = subst (λ x. HasFloorAtMost x b.lower) (found lower.place a.lower lower.within (lower.stands a.lower)) (lower'.greatest lower.place a.lower (omega (arith, lower.within)));
-      upper = subst (λ x. HasCeilingAtMost b.upper x) (found upper.place a.upper upper.within (upper.stands a.upper)) (upper'.least upper.place a.upper (omega (arith, upper.within)));
+      lower = subst (λ x. HasFloorAtMost x b.lower) (found lower.place a.lower lower.within (lower.stands a.lower))
+          (lower'.greatest lower.place a.lower (omega (arith, lower.within)));
+      upper = subst (λ x. HasCeilingAtMost b.upper x) (found upper.place a.upper upper.within (upper.stands a.upper))
+          (upper'.least upper.place a.upper (omega (arith, upper.within)));
     }
 
 -- an end is one of the evaluations, so it is divided by what its rounds weigh as they are
@@ -106,8 +111,10 @@ lies_within : (weight : ℕ → ℕ) (line line' : TraceLine) (r r' : ℕ) (a b 
     → LiesWithinBy weight line line'
 lies_within weight line line' r r' a b e e' by_a by_b h =
     subst (λ x. LiesWithinBy weight x line') (sym e) (subst (λ x. LiesWithinBy weight (trace_line r b) x) (sym e') (record {
-      not_lower = subst (λ d. (a.lower.low *ℤ pos d) ≤ℤ (b.lower.low *ℤ pos (weight a.lower.round))) by_b.lower (subst (λ d. (a.lower.low *ℤ pos b.lower.divisor) ≤ℤ (b.lower.low *ℤ pos d)) by_a.lower h.lower);
-      not_higher = subst (λ d. (b.upper.high *ℤ pos d) ≤ℤ (a.upper.high *ℤ pos (weight b.upper.round))) by_a.upper (subst (λ d. (b.upper.high *ℤ pos a.upper.divisor) ≤ℤ (a.upper.high *ℤ pos d)) by_b.upper h.upper);
+      not_lower = subst (λ d. (a.lower.low *ℤ pos d) ≤ℤ (b.lower.low *ℤ pos (weight a.lower.round))) by_b.lower
+          (subst (λ d. (a.lower.low *ℤ pos b.lower.divisor) ≤ℤ (b.lower.low *ℤ pos d)) by_a.lower h.lower);
+      not_higher = subst (λ d. (b.upper.high *ℤ pos d) ≤ℤ (a.upper.high *ℤ pos (weight b.upper.round))) by_a.upper
+          (subst (λ d. (b.upper.high *ℤ pos a.upper.divisor) ≤ℤ (a.upper.high *ℤ pos d)) by_b.upper h.upper);
     }))
 
 -- where bounds are divided by what their rounds weigh, each line's bracket lies within those of the lines before
@@ -138,7 +145,12 @@ next_up_to round ends e up le some = by_tests
     by_tests true true = record { lower_some = some; lower_until = omega arith; upper_some = some; upper_until = omega arith }
     by_tests true false = record { lower_some = some; lower_until = omega arith; upper_some = up.upper_some; upper_until = omega (arith, up.upper_until) }
     by_tests false true = record { lower_some = up.lower_some; lower_until = omega (arith, up.lower_until); upper_some = some; upper_until = omega arith }
-    by_tests false false = record { lower_some = up.lower_some; lower_until = omega (arith, up.lower_until); upper_some = up.upper_some; upper_until = omega (arith, up.upper_until) }
+    by_tests false false = record {
+      lower_some = up.lower_some;
+      lower_until = omega (arith, up.lower_until);
+      upper_some = up.upper_some;
+      upper_until = omega (arith, up.upper_until);
+    }
 
 looks_back : (round : ℕ) (ends : BracketEnds) → AreUpTo round ends → LooksBack (trace_line round ends)
 looks_back round ends up = record { low_some = up.lower_some; low_until = up.lower_until; high_some = up.upper_some; high_until = up.upper_until }

@@ -7,11 +7,13 @@ use Rattle.def_plan.specs.Payoff.{pay}
 
 -- player one's plan gets at least the floor times the other plan's root
 abbrev pub IsFloor : SequenceForm → List ℕ → ℤ → Type 0
-IsFloor form plan_one floor = (root : ℕ) (plan_two : List ℕ) → IsPlan form.sets_two root plan_two → (pos root *ℤ floor) ≤ℤ pay form.leaves plan_one plan_two
+IsFloor form plan_one floor = (root : ℕ) (plan_two : List ℕ) → IsPlan form.sets_two root plan_two → (pos root *ℤ floor)
+    ≤ℤ pay form.leaves plan_one plan_two
 
 -- player two's plan concedes at most the ceiling times the other plan's root
 abbrev pub IsCeiling : SequenceForm → List ℕ → ℤ → Type 0
-IsCeiling form plan_two ceiling = (root : ℕ) (plan_one : List ℕ) → IsPlan form.sets_one root plan_one → pay form.leaves plan_one plan_two ≤ℤ (pos root *ℤ ceiling)
+IsCeiling form plan_two ceiling = (root : ℕ) (plan_one : List ℕ) → IsPlan form.sets_one root plan_one
+    → pay form.leaves plan_one plan_two ≤ℤ (pos root *ℤ ceiling)
 
 -- a plan of root 1 that gives just that
 pub record AttainsFloor (form : SequenceForm) (plan_one : List ℕ) (floor : ℤ) (plan_two : List ℕ) : Type 0 where

@@ -1,9 +1,12 @@
 -- What holds of the bracket. Each is the contract of a function of this crate.
-use Rattle.std.specs.Prelude.{◌≡◌, ℕ, ◌+◌, ◌-◌, ◌*◌, ◌/◌, ◌%◌, ◌^◌, ◌≤◌, ◌<◌, min, ◌⊎◌, ◌↔◌, List, [], ◌∷◌, ◌++◌, map, length, take, slice_index_or, All, Contains, ℤ, pos, ◌*ℤ◌, unsigned_abs, Some}
+use Rattle.std.specs.Prelude.{◌≡◌, ℕ, ◌+◌, ◌-◌, ◌*◌, ◌/◌, ◌%◌, ◌^◌, ◌≤◌, ◌<◌, min, ◌⊎◌, ◌↔◌, List, [], ◌∷◌, ◌++◌, map}
+use Rattle.std.specs.Prelude.{length, take, slice_index_or, All, Contains, ℤ, pos, ◌*ℤ◌, unsigned_abs, Some}
 use Rattle.std.specs.List.{range_with_len}
 use Rattle.std.specs.List.Sorted.{IsStrictlyIncreasing}
 use Rattle.def_sums.specs.Limits.{most_rounds, most_row}
-use Rattle.def_reply.specs.Bracket.{evaluated_rounds, Evaluation, HasFloorAtMost, HasCeilingAtMost, BracketEnds, next_ends, first_ends, ends_of, trace_line, trace, IsLowerEnd, IsUpperEnd, LiesWithinBy}
+use Rattle.def_reply.specs.Bracket.{evaluated_rounds, Evaluation, HasFloorAtMost, HasCeilingAtMost, BracketEnds}
+use Rattle.def_reply.specs.Bracket.{next_ends, first_ends, ends_of, trace_line, trace, IsLowerEnd, IsUpperEnd}
+use Rattle.def_reply.specs.Bracket.{LiesWithinBy}
 use Rattle.def_reply.specs.declared.TraceLine.{TraceLine}
 
 -- no divisor is 0

@@ -1,5 +1,6 @@
 -- What holds of best replies and bounds. Each is the contract of a function of this crate.
-use Rattle.std.specs.Prelude.{◌≡◌, ℕ, ◌+◌, ◌≤◌, ◌<◌, ◌==◌, List, drop, filter, zip, ℤ, pos, ◌*ℤ◌, ◌≤ℤ◌, unsigned_abs, All}
+use Rattle.std.specs.Prelude.{◌≡◌, ℕ, ◌+◌, ◌≤◌, ◌<◌, ◌==◌, List, drop, filter, zip, ℤ, pos, ◌*ℤ◌, ◌≤ℤ◌, unsigned_abs}
+use Rattle.std.specs.Prelude.{All}
 use Rattle.def_tree.specs.declared.Player.{Player}
 use Rattle.def_tree.specs.declared.Player.TheVariants.{One, Two}
 use Rattle.def_sums.specs.Sum.{nat_sum_over}
@@ -7,7 +8,8 @@ use Rattle.def_sums.specs.Limits.{most_mass, most_root, most_row}
 use Rattle.def_plan.specs.Form.{InformationSet, placed, sequence_count, sequences, AreInOrder, SequenceForm}
 use Rattle.def_plan.specs.Plan.{IsPlan, pure_plan}
 use Rattle.def_plan.specs.Payoff.{AgreeOn, gain, leaf_sum, mass_of, IsNoBetter}
-use Rattle.def_reply.specs.Reply.{SetReply, values_of, choices_of, replies_at, best_reply, total, AreTight, AreFirstTight}
+use Rattle.def_reply.specs.Reply.{SetReply, values_of, choices_of, replies_at, best_reply, total, AreTight}
+use Rattle.def_reply.specs.Reply.{AreFirstTight}
 use Rattle.def_reply.specs.Bounds.{IsFloor, IsCeiling, AttainsFloor, AttainsCeiling}
 
 -- the best reply is the one solution of its equations, and its part from a set on is the reply at those sets alone
@@ -62,26 +64,32 @@ pub record TightRepliesGiveBounds : Type 0 where
       → IsFloor form plan_one (total (leaf_sum Two form.leaves plan_one) form.sets_two replies)
   pub floor_attained : (form : SequenceForm) (plan_one : List ℕ) (replies : List SetReply)
       → AreInOrder form.sets_two → AreTight Two (leaf_sum Two form.leaves plan_one) form.sets_two replies
-      → AttainsFloor form plan_one (total (leaf_sum Two form.leaves plan_one) form.sets_two replies) (pure_plan form.sets_two (choices_of replies))
+      → AttainsFloor form plan_one (total (leaf_sum Two form.leaves plan_one) form.sets_two replies)
+      (pure_plan form.sets_two (choices_of replies))
   pub ceiling : (form : SequenceForm) (plan_two : List ℕ) (replies : List SetReply)
       → AreInOrder form.sets_one → AreTight One (leaf_sum One form.leaves plan_two) form.sets_one replies
       → IsCeiling form plan_two (total (leaf_sum One form.leaves plan_two) form.sets_one replies)
   pub ceiling_attained : (form : SequenceForm) (plan_two : List ℕ) (replies : List SetReply)
       → AreInOrder form.sets_one → AreTight One (leaf_sum One form.leaves plan_two) form.sets_one replies
-      → AttainsCeiling form plan_two (total (leaf_sum One form.leaves plan_two) form.sets_one replies) (pure_plan form.sets_one (choices_of replies))
+      → AttainsCeiling form plan_two (total (leaf_sum One form.leaves plan_two) form.sets_one replies)
+      (pure_plan form.sets_one (choices_of replies))
 
 -- the totals of the best replies to a plan are its attained floor and ceiling
 pub record BestRepliesGiveBounds : Type 0 where
   pub floor : (form : SequenceForm) (plan_one : List ℕ) → AreInOrder form.sets_two
-      → let sums = leaf_sum Two form.leaves plan_one in IsFloor form plan_one (total sums form.sets_two (best_reply Two sums form.sets_two))
+      → let sums = leaf_sum Two form.leaves plan_one in IsFloor form plan_one
+      (total sums form.sets_two (best_reply Two sums form.sets_two))
   pub floor_attained : (form : SequenceForm) (plan_one : List ℕ) → AreInOrder form.sets_two
       → let sums = leaf_sum Two form.leaves plan_one in
-      AttainsFloor form plan_one (total sums form.sets_two (best_reply Two sums form.sets_two)) (pure_plan form.sets_two (choices_of (best_reply Two sums form.sets_two)))
+      AttainsFloor form plan_one (total sums form.sets_two (best_reply Two sums form.sets_two))
+      (pure_plan form.sets_two (choices_of (best_reply Two sums form.sets_two)))
   pub ceiling : (form : SequenceForm) (plan_two : List ℕ) → AreInOrder form.sets_one
-      → let sums = leaf_sum One form.leaves plan_two in IsCeiling form plan_two (total sums form.sets_one (best_reply One sums form.sets_one))
+      → let sums = leaf_sum One form.leaves plan_two in IsCeiling form plan_two
+      (total sums form.sets_one (best_reply One sums form.sets_one))
   pub ceiling_attained : (form : SequenceForm) (plan_two : List ℕ) → AreInOrder form.sets_one
       → let sums = leaf_sum One form.leaves plan_two in
-      AttainsCeiling form plan_two (total sums form.sets_one (best_reply One sums form.sets_one)) (pure_plan form.sets_one (choices_of (best_reply One sums form.sets_one)))
+      AttainsCeiling form plan_two (total sums form.sets_one (best_reply One sums form.sets_one))
+      (pure_plan form.sets_one (choices_of (best_reply One sums form.sets_one)))
 
 -- no floor is above an attained number, and no ceiling below:
 -- an attained floor is the greatest one, an attained ceiling the least
@@ -103,20 +111,25 @@ FloorsAreBelowCeilings =
 -- nor is any part of the sum that a worth is
 pub record RepliesAreSmall : Type 0 where
   pub values : (player : Player) (sums : ℕ → ℤ) (sets : List InformationSet) → AreInOrder sets
-      → All (λ r. unsigned_abs r.value ≤ nat_sum_over (λ s. unsigned_abs (sums s)) (sequences sets)) (best_reply player sums sets)
+      → All (λ r. unsigned_abs r.value ≤ nat_sum_over (λ s. unsigned_abs (sums s)) (sequences sets))
+      (best_reply player sums sets)
   pub worths : (player : Player) (sums : ℕ → ℤ) (sets : List InformationSet) (s : ℕ) → AreInOrder sets
       → s < sequence_count sets
-      → unsigned_abs (sums s) + nat_sum_over (λ p. unsigned_abs p.1) (filter (λ p. p.0.before == s) (zip (placed sets) (values_of (best_reply player sums sets))))
+      → unsigned_abs (sums s) + nat_sum_over (λ p. unsigned_abs p.1)
+      (filter (λ p. p.0.before == s) (zip (placed sets) (values_of (best_reply player sums sets))))
       ≤ nat_sum_over (λ s. unsigned_abs (sums s)) (sequences sets)
   pub totals : (player : Player) (sums : ℕ → ℤ) (sets : List InformationSet) → AreInOrder sets
-      → unsigned_abs (total sums sets (best_reply player sums sets)) ≤ nat_sum_over (λ s. unsigned_abs (sums s)) (sequences sets)
+      → unsigned_abs (total sums sets (best_reply player sums sets))
+      ≤ nat_sum_over (λ s. unsigned_abs (sums s)) (sequences sets)
 
 -- under the limits of mass and root every floor and ceiling of best replies is at most 2 ^ 98
 pub record BoundsAreSmall : Type 0 where
   pub floor : (form : SequenceForm) (root : ℕ) (plan_one : List ℕ) → AreInOrder form.sets_one → AreInOrder form.sets_two
       → IsPlan form.sets_one root plan_one → mass_of form.leaves ≤ most_mass → root ≤ most_root
-      → let sums = leaf_sum Two form.leaves plan_one in unsigned_abs (total sums form.sets_two (best_reply Two sums form.sets_two)) ≤ most_row
+      → let sums = leaf_sum Two form.leaves plan_one in unsigned_abs
+      (total sums form.sets_two (best_reply Two sums form.sets_two)) ≤ most_row
   pub ceiling : (form : SequenceForm) (root : ℕ) (plan_two : List ℕ) → AreInOrder form.sets_one
       → AreInOrder form.sets_two
       → IsPlan form.sets_two root plan_two → mass_of form.leaves ≤ most_mass → root ≤ most_root
-      → let sums = leaf_sum One form.leaves plan_two in unsigned_abs (total sums form.sets_one (best_reply One sums form.sets_one)) ≤ most_row
+      → let sums = leaf_sum One form.leaves plan_two in unsigned_abs
+      (total sums form.sets_one (best_reply One sums form.sets_one)) ≤ most_row

@@ -41,9 +41,11 @@ pub record FirstOfferMakesEnds : Type 0 where
 -- and the attained ceiling of player two's
 pub record HasBounds (form : SequenceForm) (offer : Offer) : Type 0 where
   pub floor : IsFloor form offer.plan_one offer.against_one.total
-  pub floor_attained : AttainsFloor form offer.plan_one offer.against_one.total (pure_plan form.sets_two (choices_of offer.against_one.sets))
+  pub floor_attained : AttainsFloor form offer.plan_one offer.against_one.total
+      (pure_plan form.sets_two (choices_of offer.against_one.sets))
   pub ceiling : IsCeiling form offer.plan_two offer.against_two.total
-  pub ceiling_attained : AttainsCeiling form offer.plan_two offer.against_two.total (pure_plan form.sets_one (choices_of offer.against_two.sets))
+  pub ceiling_attained : AttainsCeiling form offer.plan_two offer.against_two.total
+      (pure_plan form.sets_one (choices_of offer.against_two.sets))
 
 abbrev pub FairOffersHaveBounds : Type 0
 FairOffersHaveBounds = (form : SequenceForm) (last : ℕ) (offer : Offer) → AreInOrder form.sets_one
@@ -53,9 +55,11 @@ FairOffersHaveBounds = (form : SequenceForm) (last : ℕ) (offer : Offer) → Ar
 -- and so have the ends that are kept of fair offers
 pub record AreBoundsOf (form : SequenceForm) (lower upper : KeptEnd) : Type 0 where
   pub floor : IsFloor form lower.plan lower.reply.total
-  pub floor_attained : AttainsFloor form lower.plan lower.reply.total (pure_plan form.sets_two (choices_of lower.reply.sets))
+  pub floor_attained : AttainsFloor form lower.plan lower.reply.total
+      (pure_plan form.sets_two (choices_of lower.reply.sets))
   pub ceiling : IsCeiling form upper.plan upper.reply.total
-  pub ceiling_attained : AttainsCeiling form upper.plan upper.reply.total (pure_plan form.sets_one (choices_of upper.reply.sets))
+  pub ceiling_attained : AttainsCeiling form upper.plan upper.reply.total
+      (pure_plan form.sets_one (choices_of upper.reply.sets))
 
 abbrev pub KeptEndsAreBounds : Type 0
 KeptEndsAreBounds = (form : SequenceForm) (offers : List Offer) (lower upper : KeptEnd) → AreInOrder form.sets_one

@@ -78,8 +78,10 @@ pub record IsFirstTight (player : Player) (worth_of : ℕ → ℤ) (h : PlacedSe
 
 -- values and choices that hold up against all leaf sums and each other, as a certificate shows them
 abbrev pub AreTight : Player → (ℕ → ℤ) → List InformationSet → List SetReply → Type 0
-AreTight player sums sets replies = AllZip (IsTight player (worth sums (placed sets) (values_of replies))) (placed sets) replies
+AreTight player sums sets replies = AllZip (IsTight player (worth sums (placed sets) (values_of replies))) (placed sets)
+    replies
 
 -- the equations of the best reply
 abbrev pub AreFirstTight : Player → (ℕ → ℤ) → List InformationSet → List SetReply → Type 0
-AreFirstTight player sums sets replies = AllZip (IsFirstTight player (worth sums (placed sets) (values_of replies))) (placed sets) replies
+AreFirstTight player sums sets replies = AllZip (IsFirstTight player (worth sums (placed sets) (values_of replies)))
+    (placed sets) replies

@@ -44,8 +44,10 @@ pub value_at_most : (play : List ℕ) (w : ℕ → ℤ) (h : PlacedSet) (high : 
     → nat_sum_over (λ s. slice_index play s) (sequences_of h) ≡ units → All (λ s. w s ≤ℤ high) (sequences_of h)
     → set_value play w h ≤ℤ high
 value_at_most play w h high all le =
-    let sum = sum_over-mono (λ s. pos (slice_index play s) *ℤ w s) (λ s. pos (slice_index play s) *ℤ high) (sequences_of h) (λ k d low. *ℤ-mono (slice_index play _) (w _) high (le k d low)) in
-    let whole : sum_over (λ s. pos (slice_index play s) *ℤ high) (sequences_of h) ≡ high *ℤ pos units = same_for_all (λ s. slice_index play s) high (sequences_of h) ∙ ap (λ n. high *ℤ pos n) all in
+    let sum = sum_over-mono (λ s. pos (slice_index play s) *ℤ w s) (λ s. pos (slice_index play s) *ℤ high) (sequences_of h)
+    (λ k d low. *ℤ-mono (slice_index play _) (w _) high (le k d low)) in
+    let whole : sum_over (λ s. pos (slice_index play s) *ℤ high) (sequences_of h) ≡ high
+    *ℤ pos units = same_for_all (λ s. slice_index play s) high (sequences_of h) ∙ ap (λ n. high *ℤ pos n) all in
     floor_at_most (sum_over (λ s. pos (slice_index play s) *ℤ w s) (sequences_of h)) units high (omega arith)
     (subst (λ z. sum_over (λ s. pos (slice_index play s) *ℤ w s) (sequences_of h) ≤ℤ z) whole sum)
 
@@ -53,8 +55,10 @@ pub value_at_least : (play : List ℕ) (w : ℕ → ℤ) (h : PlacedSet) (low : 
     → nat_sum_over (λ s. slice_index play s) (sequences_of h) ≡ units → All (λ s. low ≤ℤ w s) (sequences_of h)
     → low ≤ℤ set_value play w h
 value_at_least play w h low all le =
-    let sum = sum_over-mono (λ s. pos (slice_index play s) *ℤ low) (λ s. pos (slice_index play s) *ℤ w s) (sequences_of h) (λ k d below. *ℤ-mono (slice_index play _) low (w _) (le k d below)) in
-    let whole : sum_over (λ s. pos (slice_index play s) *ℤ low) (sequences_of h) ≡ low *ℤ pos units = same_for_all (λ s. slice_index play s) low (sequences_of h) ∙ ap (λ n. low *ℤ pos n) all in
+    let sum = sum_over-mono (λ s. pos (slice_index play s) *ℤ low) (λ s. pos (slice_index play s) *ℤ w s) (sequences_of h)
+    (λ k d below. *ℤ-mono (slice_index play _) low (w _) (le k d below)) in
+    let whole : sum_over (λ s. pos (slice_index play s) *ℤ low) (sequences_of h) ≡ low
+    *ℤ pos units = same_for_all (λ s. slice_index play s) low (sequences_of h) ∙ ap (λ n. low *ℤ pos n) all in
     floor_at_least (sum_over (λ s. pos (slice_index play s) *ℤ w s) (sequences_of h)) units low (omega arith)
     (subst (λ z. z ≤ℤ sum_over (λ s. pos (slice_index play s) *ℤ w s) (sequences_of h)) whole sum)
 
@@ -77,8 +81,10 @@ pub value_within : (play : List ℕ) (w : ℕ → ℤ) (h : PlacedSet)
     → unsigned_abs (set_value play w h) ≤ nat_sum_over (λ s. unsigned_abs (w s)) (sequences_of h)
 value_within play w h all =
     let bound : ℕ = nat_sum_over (λ s. unsigned_abs (w s)) (sequences_of h) in
-    let high = value_at_most play w h (pos bound) all (All-range (λ s. w s ≤ℤ pos bound) h.first h.actions (λ s low high. let e = at_most_sum (λ s. unsigned_abs (w s)) h.first h.actions s low high in omega (arith, ints))) in
-    let low = value_at_least play w h (neg_ℤ (pos bound)) all (All-range (λ s. neg_ℤ (pos bound) ≤ℤ w s) h.first h.actions (λ s low high. let e = at_most_sum (λ s. unsigned_abs (w s)) h.first h.actions s low high in omega (arith, ints))) in
+    let high = value_at_most play w h (pos bound) all (All-range (λ s. w s ≤ℤ pos bound) h.first h.actions
+    (λ s low high. let e = at_most_sum (λ s. unsigned_abs (w s)) h.first h.actions s low high in omega (arith, ints))) in
+    let low = value_at_least play w h (neg_ℤ (pos bound)) all (All-range (λ s. neg_ℤ (pos bound) ≤ℤ w s) h.first h.actions
+    (λ s low high. let e = at_most_sum (λ s. unsigned_abs (w s)) h.first h.actions s low high in omega (arith, ints))) in
     omega (arith, ints)
 
 -- two worths of a set are no further from each other than the bound
@@ -97,8 +103,10 @@ pub growth_within : (play : List ℕ) (w : ℕ → ℤ) (h : PlacedSet)
     → unsigned_abs (w s -ℤ set_value play w h) ≤ nat_sum_over (λ s. unsigned_abs (w s)) (sequences_of h)
 growth_within play w h all s low_s high_s =
     let bound : ℕ = nat_sum_over (λ s. unsigned_abs (w s)) (sequences_of h) in
-    let high = value_at_most play w h (w s +ℤ pos bound) all (All-range (λ t. w t ≤ℤ (w s +ℤ pos bound)) h.first h.actions (λ t low high. let e = apart_within w h s t low_s high_s low high in omega (arith, ints))) in
-    let low = value_at_least play w h (w s -ℤ pos bound) all (All-range (λ t. (w s -ℤ pos bound) ≤ℤ w t) h.first h.actions (λ t low high. let e = apart_within w h s t low_s high_s low high in omega (arith, ints))) in
+    let high = value_at_most play w h (w s +ℤ pos bound) all (All-range (λ t. w t ≤ℤ (w s +ℤ pos bound)) h.first h.actions
+    (λ t low high. let e = apart_within w h s t low_s high_s low high in omega (arith, ints))) in
+    let low = value_at_least play w h (w s -ℤ pos bound) all (All-range (λ t. (w s -ℤ pos bound) ≤ℤ w t) h.first h.actions
+    (λ t low high. let e = apart_within w h s t low_s high_s low high in omega (arith, ints))) in
     omega (arith, ints)
 
 -- products of play and worth

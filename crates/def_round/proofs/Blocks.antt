@@ -1,5 +1,6 @@
 -- Lists with a block for each set, one block after the other.
-use Rattle.std.proofs.Common.{◌≡◌, ℕ, zero, suc, ◌+◌, ◌-◌, ◌≤◌, ◌<◌, List, [], ◌∷◌, ◌++◌, map, zip, length, get_or, drop, All, arith, ap, sym, ◌∙◌, refl, subst, length-append, append_assoc, add-zero}
+use Rattle.std.proofs.Common.{◌≡◌, ℕ, zero, suc, ◌+◌, ◌-◌, ◌≤◌, ◌<◌, List, [], ◌∷◌, ◌++◌, map, zip, length, get_or, drop, All, arith, ap, sym, ◌∙◌, refl, subst}
+use Rattle.std.proofs.Common.{length-append, append_assoc, add-zero}
 use Rattle.std.specs.List.{range_with_len, AllZip, flat_map}
 use Rattle.std.proofs.lemmas.List.{get_or-append-add, drop_all}
 use Rattle.std.proofs.lemmas.List.Elements.{All-cons, All-nil}
@@ -14,7 +15,8 @@ pub same_at : {A : Type 0} (f g : ℕ → A) (a n : ℕ) → map f (range_with_l
 same_at f g a n same s low high =
     let below : s - a < n = omega arith in
     let is : a + (s - a) ≡ s = omega arith in
-    sym (get_or-map-range_with_len f a n (s - a) s (f s) below is) ∙ ap (λ xs. get_or xs (s - a) (f s)) same ∙ get_or-map-range_with_len g a n (s - a) s (f s) below is
+    sym (get_or-map-range_with_len f a n (s - a) s (f s) below is) ∙ ap (λ xs. get_or xs (s - a) (f s)) same
+    ∙ get_or-map-range_with_len g a n (s - a) s (f s) below is
 
 -- what stands in a list after its front
 pub at_front : {A : Type 0} (front : List A) (x : A) (rest : List A) (first : ℕ) (d : A) → length front ≡ first
@@ -29,7 +31,8 @@ map-block front [] rest first d e = refl
 map-block front (x ∷ block) rest first d e =
     let longer : length (front ++ x ∷ []) ≡ first + 1 = omega (arith, length-append front (x ∷ [])) in
     let same : (front ++ x ∷ []) ++ (block ++ rest) ≡ front ++ (x ∷ (block ++ rest)) = append_assoc front (x ∷ []) (block ++ rest) in
-    ap (λ y. y ∷ map (λ s. get_or (front ++ (x ∷ (block ++ rest))) s d) (range_with_len (first + 1) (length block))) (at_front front x (block ++ rest) first d e)
+    ap (λ y. y ∷ map (λ s. get_or (front ++ (x ∷ (block ++ rest))) s d) (range_with_len (first + 1) (length block)))
+    (at_front front x (block ++ rest) first d e)
     ∙ ap (λ w. x ∷ map (λ s. get_or w s d) (range_with_len (first + 1) (length block))) (sym same)
     ∙ ap (λ xs. x ∷ xs) (map-block (front ++ x ∷ []) block rest (first + 1) d longer)
 
@@ -44,7 +47,8 @@ blocks f d sizes front first (h ∷ hs) e =
     let longer : length (front ++ f here) ≡ first + h.actions = omega (arith, length-append front (f here), sizes here) in
     let same : (front ++ f here) ++ flat_map f rest ≡ front ++ (f here ++ flat_map f rest) = append_assoc front (f here) (flat_map f rest) in
     All-cons (λ h'. map (λ s. get_or (front ++ (f here ++ flat_map f rest)) s d) (sequences_of h') ≡ f h') here rest
-    (ap (λ n. map (λ s. get_or (front ++ (f here ++ flat_map f rest)) s d) (range_with_len first n)) (sym (sizes here)) ∙ map-block front (f here) (flat_map f rest) first d e)
+    (ap (λ n. map (λ s. get_or (front ++ (f here ++ flat_map f rest)) s d) (range_with_len first n)) (sym (sizes here))
+    ∙ map-block front (f here) (flat_map f rest) first d e)
     (subst (λ w. All (λ h'. map (λ s. get_or w s d) (sequences_of h') ≡ f h') rest) same (blocks f d sizes (front ++ f here) (first + h.actions) hs longer))
 
 -- blocks with an element for each action have together as many elements as the sets have actions
@@ -61,7 +65,8 @@ pub blocks_zip : {A B : Type 0} (f : PlacedSet → B → List A) (d : A)
     → ((h : PlacedSet) (b : B) → length (f h b) ≡ h.actions)
     → (front : List A) (first : ℕ) (sets : List InformationSet) (bs : List B) → length bs ≡ length sets
     → length front ≡ first
-    → AllZip (λ h b. map (λ s. get_or (front ++ flat_map (λ p. f p.0 p.1) (zip (placed_from first sets) bs)) s d) (sequences_of h) ≡ f h b) (placed_from first sets) bs
+    → AllZip (λ h b. map (λ s. get_or (front ++ flat_map (λ p. f p.0 p.1) (zip (placed_from first sets) bs)) s d) (sequences_of h) ≡ f h b)
+    (placed_from first sets) bs
 blocks_zip f d sizes front first [] [] l e = tt
 blocks_zip f d sizes front first [] (b ∷ bs) l e = absurd (omega arith)
 blocks_zip f d sizes front first (h ∷ hs) [] l e = absurd (omega arith)
@@ -72,7 +77,8 @@ blocks_zip {A} {B} f d sizes front first (h ∷ hs) (b ∷ bs) l e =
     let longer : length (front ++ f here b) ≡ first + h.actions = omega (arith, length-append front (f here b), sizes here b) in
     let same : (front ++ f here b) ++ tail ≡ front ++ (f here b ++ tail) = append_assoc front (f here b) tail in (
       ap (λ n. map (λ s. get_or (front ++ (f here b ++ tail)) s d) (range_with_len first n)) (sym (sizes here b)) ∙ map-block front (f here b) tail first d e,
-      subst (λ w. AllZip (λ h' b'. map (λ s. get_or w s d) (sequences_of h') ≡ f h' b') rest bs) same (blocks_zip f d sizes (front ++ f here b) (first + h.actions) hs bs (omega arith) longer),
+      subst (λ w. AllZip (λ h' b'. map (λ s. get_or w s d) (sequences_of h') ≡ f h' b') rest bs) same
+          (blocks_zip f d sizes (front ++ f here b) (first + h.actions) hs bs (omega arith) longer),
     )
 
 -- so have the blocks that are made from a second list too
@@ -85,7 +91,12 @@ length-blocks_zip f sizes first [] (b ∷ bs) l = absurd (omega arith)
 length-blocks_zip f sizes first (h ∷ hs) [] l = absurd (omega arith)
 length-blocks_zip f sizes first (h ∷ hs) (b ∷ bs) l =
     let here : PlacedSet = record { first = first; before = h.before; actions = h.actions } in
-    omega (arith, length-append (f here b) (flat_map (λ p. f p.0 p.1) (zip (placed_from (first + h.actions) hs) bs)), sizes here b, length-blocks_zip f sizes (first + h.actions) hs bs (omega arith))
+    omega (
+      arith,
+      length-append (f here b) (flat_map (λ p. f p.0 p.1) (zip (placed_from (first + h.actions) hs) bs)),
+      sizes here b,
+      length-blocks_zip f sizes (first + h.actions) hs bs (omega arith),
+    )
 
 -- a list is what its blocks say
 pub drop-range : {A : Type 0} (xs : List A) (d : A) (first n : ℕ) → first + n ≤ length xs

@@ -31,8 +31,10 @@ have_all form root (suc n) order_one order_two some =
     let one = plan_length form.sets_one (play_of form.sets_one before.regrets_one) root order_one some in
     let two = plan_length form.sets_two (play_of form.sets_two before.regrets_two) root order_two some in
     record {
-      of_one = length-added before.sum_one (plan_of_play form.sets_one (play_of form.sets_one before.regrets_one) root) (so_far.of_one ∙ sym one) ∙ so_far.of_one;
-      of_two = length-added before.sum_two (plan_of_play form.sets_two (play_of form.sets_two before.regrets_two) root) (so_far.of_two ∙ sym two) ∙ so_far.of_two;
+      of_one = length-added before.sum_one (plan_of_play form.sets_one (play_of form.sets_one before.regrets_one) root) (so_far.of_one ∙ sym one)
+          ∙ so_far.of_one;
+      of_two = length-added before.sum_two (plan_of_play form.sets_two (play_of form.sets_two before.regrets_two) root) (so_far.of_two ∙ sym two)
+          ∙ so_far.of_two;
     }
 
 grows : (before plan : List ℕ) (n : ℕ) → length before ≡ n → length plan ≡ n → GrowsBy before plan (added before plan)
@@ -61,8 +63,10 @@ next form root before order_one order_two some all =
       deals_of_two = deals form.sets_two play_two root order_two some;
       sum_of_one = grows before.sum_one plan_one (sequence_count form.sets_one) all.of_one (plan_length form.sets_one play_one root order_one some);
       sum_of_two = grows before.sum_two plan_two (sequence_count form.sets_two) all.of_two (plan_length form.sets_two play_two root order_two some);
-      regrets_of_one = (rounds_are_computed (own_sum One form.leaves plan_two) play_one form.sets_one before.regrets_one (regrets_after (own_sum One form.leaves plan_two) play_one form.sets_one before.regrets_one) order_one).1 refl;
-      regrets_of_two = (rounds_are_computed (own_sum Two form.leaves plan_one) play_two form.sets_two before.regrets_two (regrets_after (own_sum Two form.leaves plan_one) play_two form.sets_two before.regrets_two) order_two).1 refl;
+      regrets_of_one = (rounds_are_computed (own_sum One form.leaves plan_two) play_one form.sets_one before.regrets_one
+          (regrets_after (own_sum One form.leaves plan_two) play_one form.sets_one before.regrets_one) order_one).1 refl;
+      regrets_of_two = (rounds_are_computed (own_sum Two form.leaves plan_one) play_two form.sets_two before.regrets_two
+          (regrets_after (own_sum Two form.leaves plan_one) play_two form.sets_two before.regrets_two) order_two).1 refl;
     }
 
 -- a run begins with empty regrets and sums, and each standing follows from the last by one round

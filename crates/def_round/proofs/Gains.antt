@@ -20,5 +20,6 @@ negated f plan (x ∷ xs) = omega (arith, ints, neg-*ℤ (f x) (pos (slice_index
 pub own_sums_gain : OwnSumsGainWhatIsPaid
 own_sums_gain form plan_one plan_two = record {
   of_one = λ long. gain_is_pay_one form.leaves form.sets_one plan_one plan_two long;
-  of_two = λ long. negated (leaf_sum Two form.leaves plan_one) plan_two (sequences form.sets_two) ∙ ap neg_ℤ (gain_is_pay_two form.leaves form.sets_two plan_one plan_two long);
+  of_two = λ long. negated (leaf_sum Two form.leaves plan_one) plan_two (sequences form.sets_two)
+      ∙ ap neg_ℤ (gain_is_pay_two form.leaves form.sets_two plan_one plan_two long);
 }

@@ -31,7 +31,8 @@ utility_size Two payoff = omega (arith, ints)
 -- the sizes of a player's leaf sums against a plan are together at most the mass times the root
 pub own_sums_small : OwnSumsAreSmall
 own_sums_small player leaves sets against_sets root plan order is =
-    let same = nat_sum_over-same (λ s. unsigned_abs (own_sum player leaves plan s)) (λ s. unsigned_abs (leaf_sum player leaves plan s)) (sequences sets) (λ k d low. utility_size player (leaf_sum player leaves plan _)) in
+    let same = nat_sum_over-same (λ s. unsigned_abs (own_sum player leaves plan s)) (λ s. unsigned_abs (leaf_sum player leaves plan s)) (sequences sets)
+    (λ k d low. utility_size player (leaf_sum player leaves plan _)) in
     omega (arith, same, leaf_sums-below player leaves sets against_sets root plan order is)
 
 -- ---- one round
@@ -44,18 +45,24 @@ All-blocks P f (x ∷ xs) (y ∷ ys) all = All-append P (f x y) (flat_map (λ p.
 at_each : (bound : ℕ) (regrets : List ℤ) → All (λ r. unsigned_abs r ≤ bound) regrets → (s : ℕ)
     → unsigned_abs (regret_of regrets s) ≤ bound
 at_each bound regrets all s =
-    ⊎_elim (λ low. all s (pos 0) low) (λ past. subst (λ r. unsigned_abs r ≤ bound) (sym (get_or_past regrets s (pos 0) past)) (omega arith)) (cases_lt s (length regrets))
+    ⊎_elim (λ low. all s (pos 0) low) (λ past. subst (λ r. unsigned_abs r ≤ bound) (sym (get_or_past regrets s (pos 0) past)) (omega arith))
+    (cases_lt s (length regrets))
 
 one_round : (sums : ℕ → ℤ) (play : List ℕ) (sets : List InformationSet) (before : List ℤ) (so_far bound : ℕ)
     → AreInOrder sets → GivesAllUnits play sets
     → size_of_sums sums sets ≤ bound → ((s : ℕ) → unsigned_abs (regret_of before s) ≤ so_far)
     → All (λ r. unsigned_abs r ≤ so_far + bound) (regrets_after sums play sets before)
 one_round sums play sets before so_far bound order whole le small =
-    All-cons (λ r. unsigned_abs r ≤ so_far + bound) (pos 0) (flat_map (λ p. set_regrets sums (placed sets) (round_values sums play sets) before p.0 p.1) (zip (placed sets) (round_values sums play sets))) (omega arith)
-    (All-blocks (λ r. unsigned_abs r ≤ so_far + bound) (λ h v. set_regrets sums (placed sets) (round_values sums play sets) before h v) (placed sets) (round_values sums play sets)
-    (AllZip-weaker (IsWithin (size_of_sums sums sets) sums play sets (round_values sums play sets)) (λ h v. All (λ r. unsigned_abs r ≤ so_far + bound) (set_regrets sums (placed sets) (round_values sums play sets) before h v))
-    (λ h v is. All-map (λ r. unsigned_abs r ≤ so_far + bound) (λ s. regret_of before s +ℤ (worth sums (placed sets) (round_values sums play sets) s -ℤ v)) (sequences_of h)
-    (λ k d low. grows (regret_of before (get_or (sequences_of h) k d)) (worth sums (placed sets) (round_values sums play sets) (get_or (sequences_of h) k d) -ℤ v) (small (get_or (sequences_of h) k d)) (is.each_growth k d low)))
+    All-cons (λ r. unsigned_abs r ≤ so_far + bound) (pos 0) (flat_map (λ p. set_regrets sums (placed sets) (round_values sums play sets) before p.0 p.1)
+    (zip (placed sets) (round_values sums play sets))) (omega arith)
+    (All-blocks (λ r. unsigned_abs r ≤ so_far + bound) (λ h v. set_regrets sums (placed sets) (round_values sums play sets) before h v) (placed sets)
+    (round_values sums play sets)
+    (AllZip-weaker (IsWithin (size_of_sums sums sets) sums play sets (round_values sums play sets))
+    (λ h v. All (λ r. unsigned_abs r ≤ so_far + bound) (set_regrets sums (placed sets) (round_values sums play sets) before h v))
+    (λ h v is. All-map (λ r. unsigned_abs r ≤ so_far + bound) (λ s. regret_of before s +ℤ (worth sums (placed sets) (round_values sums play sets) s -ℤ v))
+    (sequences_of h)
+    (λ k d low. grows (regret_of before (get_or (sequences_of h) k d)) (worth sums (placed sets) (round_values sums play sets) (get_or (sequences_of h) k d)
+    -ℤ v) (small (get_or (sequences_of h) k d)) (is.each_growth k d low)))
     (placed sets) (round_values sums play sets) (values_within sums play sets order whole)))
   where
     grows : (r g : ℤ) → unsigned_abs r ≤ so_far → unsigned_abs g ≤ size_of_sums sums sets
@@ -95,11 +102,15 @@ rounds_within form root (suc n) order_one order_two some =
     let more : n * bound + bound ≡ suc n * bound = omega arith in
     record {
       of_one = subst (λ b. All (λ r. unsigned_abs r ≤ b) (regrets_after (own_sum One form.leaves plan_two) play_one form.sets_one before.regrets_one)) more
-          (one_round (own_sum One form.leaves plan_two) play_one form.sets_one before.regrets_one (n * bound) bound order_one (plays_all_units form.sets_one before.regrets_one order_one)
-          (own_sums_small One form.leaves form.sets_one form.sets_two root plan_two order_two (plays_deal_plans form.sets_two play_two root order_two some)) (at_each (n * bound) before.regrets_one so_far.of_one));
+          (one_round (own_sum One form.leaves plan_two) play_one form.sets_one before.regrets_one (n * bound) bound order_one
+          (plays_all_units form.sets_one before.regrets_one order_one)
+          (own_sums_small One form.leaves form.sets_one form.sets_two root plan_two order_two (plays_deal_plans form.sets_two play_two root order_two some))
+          (at_each (n * bound) before.regrets_one so_far.of_one));
       of_two = subst (λ b. All (λ r. unsigned_abs r ≤ b) (regrets_after (own_sum Two form.leaves plan_one) play_two form.sets_two before.regrets_two)) more
-          (one_round (own_sum Two form.leaves plan_one) play_two form.sets_two before.regrets_two (n * bound) bound order_two (plays_all_units form.sets_two before.regrets_two order_two)
-          (own_sums_small Two form.leaves form.sets_two form.sets_one root plan_one order_one (plays_deal_plans form.sets_one play_one root order_one some)) (at_each (n * bound) before.regrets_two so_far.of_two));
+          (one_round (own_sum Two form.leaves plan_one) play_two form.sets_two before.regrets_two (n * bound) bound order_two
+          (plays_all_units form.sets_two before.regrets_two order_two)
+          (own_sums_small Two form.leaves form.sets_two form.sets_one root plan_one order_one (plays_deal_plans form.sets_one play_one root order_one some))
+          (at_each (n * bound) before.regrets_two so_far.of_two));
     }
 
 -- after n rounds a regret is at most n times the mass times the root
@@ -141,7 +152,8 @@ pub deals_within : (sets : List InformationSet) (regrets : List ℤ)
 deals_within sets regrets small = record {
   each_set = λ k d below few.
       let h : PlacedSet = get_or (placed sets) k d in
-      let sum = nat_sum_over-bounded (λ s. positive_part (regret_of regrets s)) (2 ^ 98) (sequences_of h) (λ i e low. let s : ℕ = get_or (sequences_of h) i e in let p = part_size (regret_of regrets s) in let q = small s in omega (arith, p, q)) in
+      let sum = nat_sum_over-bounded (λ s. positive_part (regret_of regrets s)) (2 ^ 98) (sequences_of h)
+      (λ i e low. let s : ℕ = get_or (sequences_of h) i e in let p = part_size (regret_of regrets s) in let q = small s in omega (arith, p, q)) in
       let long = length-range_with_len h.first h.actions in
       omega (arith, sum, long, few);
 }
@@ -150,4 +162,7 @@ deals_within sets regrets small = record {
 pub dealt_products_small : DealtProductsAreSmall
 dealt_products_small form root n order_one order_two some limits =
     let small = regrets_small form root n order_one order_two some limits in
-    record { of_one = deals_within form.sets_one (rounds form root n).regrets_one small.of_one; of_two = deals_within form.sets_two (rounds form root n).regrets_two small.of_two }
+    record {
+      of_one = deals_within form.sets_one (rounds form root n).regrets_one small.of_one;
+      of_two = deals_within form.sets_two (rounds form root n).regrets_two small.of_two;
+    }

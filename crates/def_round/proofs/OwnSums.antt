@@ -38,7 +38,8 @@ regrets_same sums other all values before first (h ∷ hs) (v ∷ vs) agree =
     ap (λ block. block ++ flat_map (λ p. set_regrets sums all values before p.0 p.1) (zip rest vs))
     (map-range_same (λ s. regret_of before s +ℤ (worth sums all values s -ℤ v)) (λ s. regret_of before s +ℤ (worth other all values s -ℤ v)) first h.actions
     (λ s low high. ap (λ w. regret_of before s +ℤ (w -ℤ v)) (worth_same sums other all values s (agree s (omega arith)))))
-    ∙ ap (λ later. set_regrets other all values before here v ++ later) (regrets_same sums other all values before (first + h.actions) hs vs (λ s low. agree s (omega arith)))
+    ∙ ap (λ later. set_regrets other all values before here v ++ later) (regrets_same sums other all values before (first + h.actions) hs vs
+    (λ s low. agree s (omega arith)))
 
 -- sums that agree at a player's own sequences give the same values and the same regrets
 pub rounds_need_own_sums : RoundsNeedOwnSums

@@ -1,5 +1,6 @@
 -- Plays, and the plans that they deal.
-use Rattle.std.proofs.Common.{◌≡◌, ℕ, suc, ◌+◌, ◌-◌, ◌≤◌, ◌<◌, List, [], ◌∷◌, ◌++◌, map, length, get_or, slice_index, All, arith, ap, sym, ◌∙◌, refl, length-append}
+use Rattle.std.proofs.Common.{◌≡◌, ℕ, suc, ◌+◌, ◌-◌, ◌≤◌, ◌<◌, List, [], ◌∷◌, ◌++◌, map, length, get_or, slice_index, All, arith, ap, sym, ◌∙◌, refl}
+use Rattle.std.proofs.Common.{length-append}
 use Rattle.std.specs.Prelude.{ℤ, pos, negsuc, ◌≤ℤ◌, ◌<ℤ◌}
 use Rattle.std.specs.List.{range_with_len, AllZip}
 use Rattle.std.proofs.lemmas.List.{append-nil, get_or_append_left}
@@ -15,7 +16,8 @@ use Rattle.def_plan.proofs.Dealing.{IsDealt, dealt_onto-is_dealt, dealt-is_plan}
 use Rattle.def_round.specs.Shares.{weight_sum}
 use Rattle.def_round.proofs.SharesLaws.{length-shares, shares_whole, no_weight_no_share}
 use Rattle.def_round.specs.Play.{units, positive_part, regret_of, set_play, play_of, play_rule}
-use Rattle.def_round.specs.Laws.{PlaysPositiveRegrets, PlaysHaveEachSet, PlaysGiveAllUnits, PlaysDealPlans, PlaysDealByShares, PlansOfPlaysAreUnique, PositivePartsAreExact}
+use Rattle.def_round.specs.Laws.{PlaysPositiveRegrets, PlaysHaveEachSet, PlaysGiveAllUnits, PlaysDealPlans, PlaysDealByShares, PlansOfPlaysAreUnique}
+use Rattle.def_round.specs.Laws.{PositivePartsAreExact}
 use Rattle.def_round.proofs.Blocks.{map-block, blocks, length-blocks}
 
 length-set_play : (regrets : List ℤ) (h : PlacedSet) → length (set_play regrets h) ≡ h.actions
@@ -72,7 +74,12 @@ plays_positive_regrets sets regrets k d below s t is_s is_t positive none =
     let weights : List ℕ = map part (sequences_of h) in
     let i : ℕ = s - h.first in
     let long : length weights ≡ h.actions = length-map-range_with_len part h.first h.actions in
-    let some : 1 ≤ weight_sum weights = omega (arith, sum_of_map part (sequences_of h), at_most_sum part h.first h.actions t is_t.0 is_t.1, some_part (regret_of regrets t) positive) in
+    let some : 1 ≤ weight_sum weights = omega (
+      arith,
+      sum_of_map part (sequences_of h),
+      at_most_sum part h.first h.actions t is_t.0 is_t.1,
+      some_part (regret_of regrets t) positive,
+    ) in
     let inside : i < h.actions = omega (arith, is_s.0, is_s.1) in
     let at : h.first + i ≡ s = omega (arith, is_s.0) in
     let zero' : slice_index weights i ≡ 0 = get_or-map-range_with_len part h.first h.actions i s 0 inside at ∙ no_part (regret_of regrets s) none in
@@ -101,7 +108,8 @@ plays_deal_plans sets play root order some = dealt-is_plan root sets (map (play_
 -- at each set the rule's numbers
 dealt_by_rule : (play : List ℕ) (first : ℕ) (x : List ℕ) (sets : List InformationSet) → length x ≡ first
     → All IsInOrder (placed_from first sets)
-    → All (λ h. map (λ s. slice_index (dealt_onto x sets (map (play_rule play) (placed_from first sets))) s) (sequences_of h) ≡ play_rule play h (slice_index (dealt_onto x sets (map (play_rule play) (placed_from first sets))) h.before)) (placed_from first sets)
+    → All (λ h. map (λ s. slice_index (dealt_onto x sets (map (play_rule play) (placed_from first sets))) s) (sequences_of h)
+    ≡ play_rule play h (slice_index (dealt_onto x sets (map (play_rule play) (placed_from first sets))) h.before)) (placed_from first sets)
 dealt_by_rule play first x [] e order = All-nil (λ h. map (λ s. slice_index x s) (sequences_of h) ≡ play_rule play h (slice_index x h.before))
 dealt_by_rule play first x (h ∷ hs) e order =
     let here : PlacedSet = record { first = first; before = h.before; actions = h.actions } in
@@ -111,11 +119,13 @@ dealt_by_rule play first x (h ∷ hs) e order =
     let block : List ℕ = play_rule play here n in
     let x' : List ℕ = x ++ block in
     let r : List ℕ = dealt_onto x' hs rules in
-    let long : length block ≡ h.actions = length-shares n (map (λ s. slice_index play s) (sequences_of here)) ∙ length-map-range_with_len (λ s. slice_index play s) first h.actions in
+    let long : length block ≡ h.actions = length-shares n (map (λ s. slice_index play s) (sequences_of here))
+    ∙ length-map-range_with_len (λ s. slice_index play s) first h.actions in
     let longer : length x' ≡ first + h.actions = omega (arith, length-append x block, long) in
     let order' = All-tail IsInOrder here rest order in
     let before : h.before < first = (All-head IsInOrder here rest order).1 in
-    let later : IsDealt (first + h.actions) x' hs r = dealt_onto-is_dealt (first + h.actions) x' hs rules longer order' (play_rules_whole play (first + h.actions) hs order') in
+    let later : IsDealt (first + h.actions) x' hs r = dealt_onto-is_dealt (first + h.actions) x' hs rules longer order'
+    (play_rules_whole play (first + h.actions) hs order') in
     let stays : slice_index r h.before ≡ n = later.kept h.before (omega arith) ∙ get_or_append_left x block 0 h.before (omega arith) in
     let at_here : map (λ s. slice_index r s) (sequences_of here) ≡ play_rule play here (slice_index r h.before) =
     map-range_same (λ s. slice_index r s) (λ s. slice_index x' s) first h.actions (λ s low high. later.kept s high)
@@ -143,4 +153,5 @@ follows_rules play plan (h ∷ hs) all = (
 -- a plan that is split at each set by the shares of a play is the one that the play deals
 pub plans_of_plays_are_unique : PlansOfPlaysAreUnique
 plans_of_plays_are_unique sets play root plan order is =
-    dealt-only sets root (map (play_rule play) (placed sets)) plan order (play_rules_whole play 1 sets order) is.is_plan (follows_rules play plan (placed sets) is.each_set)
+    dealt-only sets root (map (play_rule play) (placed sets)) plan order (play_rules_whole play 1 sets order) is.is_plan
+    (follows_rules play plan (placed sets) is.each_set)

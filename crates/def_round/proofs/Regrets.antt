@@ -32,9 +32,12 @@ module _ (sums : ℕ → ℤ) (sets : List InformationSet) (values : List ℤ) (
     none_of_empty = refl;
     each_set = AllZip-weaker
         (λ h v. map (λ s. regret_of (regrets_with sums (placed sets) before values) s) (sequences_of h) ≡ set_regrets sums (placed sets) values before h v)
-        (λ h v. All (λ s. regret_of (regrets_with sums (placed sets) before values) s ≡ regret_of before s +ℤ (worth sums (placed sets) values s -ℤ v)) (sequences_of h))
-        (λ h v same. All-range (λ s. regret_of (regrets_with sums (placed sets) before values) s ≡ regret_of before s +ℤ (worth sums (placed sets) values s -ℤ v)) h.first h.actions
-        (same_at (λ s. regret_of (regrets_with sums (placed sets) before values) s) (λ s. regret_of before s +ℤ (worth sums (placed sets) values s -ℤ v)) h.first h.actions same))
+        (λ h v. All (λ s. regret_of (regrets_with sums (placed sets) before values) s ≡ regret_of before s +ℤ (worth sums (placed sets) values s -ℤ v))
+        (sequences_of h))
+        (λ h v same. All-range (λ s. regret_of (regrets_with sums (placed sets) before values) s ≡ regret_of before s
+        +ℤ (worth sums (placed sets) values s -ℤ v)) h.first h.actions
+        (same_at (λ s. regret_of (regrets_with sums (placed sets) before values) s) (λ s. regret_of before s +ℤ (worth sums (placed sets) values s -ℤ v))
+        h.first h.actions same))
         (placed sets) values
         (blocks_zip (λ h v. set_regrets sums (placed sets) values before h v) (pos 0) block_long (pos 0 ∷ []) 1 sets values long refl);
   }
@@ -71,5 +74,6 @@ rounds_are_computed sums play sets before after order = (computed, is_round)
     is_round same = record {
       values = round_values sums play sets;
       are_values = values_solve sums play sets order;
-      adds_regrets = subst (λ r. AddsRegrets sums sets (round_values sums play sets) before r) (sym same) (computed_adds sums sets (round_values sums play sets) before (length-values_of sums play sets));
+      adds_regrets = subst (λ r. AddsRegrets sums sets (round_values sums play sets) before r) (sym same)
+          (computed_adds sums sets (round_values sums play sets) before (length-values_of sums play sets));
     }

@@ -1,5 +1,6 @@
 -- The laws of shares, from the floors of the prefix sums.
-use Rattle.std.proofs.Common.{◌≡◌, ℕ, zero, suc, ◌+◌, ◌-◌, ◌*◌, ◌/◌, ◌<◌, ◌≤◌, Bool, true, false, cond, eqb, List, [], ◌∷◌, length, get_or, take, replicate, refl, sym, ap, ◌∙◌, arith, add-zero, add-one}
+use Rattle.std.proofs.Common.{◌≡◌, ℕ, zero, suc, ◌+◌, ◌-◌, ◌*◌, ◌/◌, ◌<◌, ◌≤◌, Bool, true, false, cond, eqb, List, [], ◌∷◌, length, get_or, take, replicate}
+use Rattle.std.proofs.Common.{refl, sym, ap, ◌∙◌, arith, add-zero, add-one}
 use Rattle.std.proofs.lemmas.List.FromFn.{length-map-range_with_len, get_or-map-range_with_len}
 use Rattle.std.proofs.lemmas.List.{length-replicate, take_more}
 use Rattle.std.proofs.Math.Seq.{take-length}
@@ -35,7 +36,8 @@ some_weight weights some = by_sum (eqb (weight_sum weights) 0) refl
 -- one weight more adds that weight to the sum of those before it
 pub prefix-more : (weights : List ℕ) (i : ℕ) → i < length weights
     → prefix_sum weights (i + 1) ≡ prefix_sum weights i + get_or weights i 0
-prefix-more weights i below = ap weight_sum (take_more weights i 0 below) ∙ nat_sum_over-append (λ w. w) (take i weights) (get_or weights i 0 ∷ []) ∙ ap (λ n. prefix_sum weights i + n) (add-zero (get_or weights i 0))
+prefix-more weights i below = ap weight_sum (take_more weights i 0 below) ∙ nat_sum_over-append (λ w. w) (take i weights) (get_or weights i 0 ∷ [])
+    ∙ ap (λ n. prefix_sum weights i + n) (add-zero (get_or weights i 0))
 
 -- the sum before the end is that of all weights
 pub prefix-all : (weights : List ℕ) → prefix_sum weights (length weights) ≡ weight_sum weights
@@ -51,7 +53,8 @@ quotients low part high sum some is = (no_less, above, below)
     no_less = le-div (low / sum) high sum some (omega (arith, div-add-mod' low sum))
 
     split : (high / sum - low / sum) * sum + low / sum * sum ≡ high / sum * sum
-    split = let e : high / sum - low / sum + low / sum ≡ high / sum = omega (arith, no_less) in sym (add-mul (high / sum - low / sum) (low / sum) sum) ∙ ap (λ q. q * sum) e
+    split = let e : high / sum - low / sum + low / sum ≡ high / sum = omega (arith, no_less) in sym (add-mul (high / sum - low / sum) (low / sum) sum)
+        ∙ ap (λ q. q * sum) e
 
     above : part < (high / sum - low / sum + 1) * sum
     above = omega (arith, split, div-add-mod' low sum, div-add-mod' high sum, mod_below high sum some, is)
@@ -66,18 +69,21 @@ step_of n weights i below = sym (mul-add n (prefix_sum weights i) (get_or weight
 -- ---- the shares of weights that don't add up to 0
 share_at : (n : ℕ) (weights : List ℕ) (i : ℕ) → i < length weights
     → get_or (shares_in_proportion n weights) i 0 ≡ prefix_share n weights (i + 1) - prefix_share n weights i
-share_at n weights i below = get_or-map-range_with_len (λ (i : ℕ). prefix_share n weights (i + 1) - prefix_share n weights i) 0 (length weights) i i 0 below (omega arith)
+share_at n weights i below = get_or-map-range_with_len (λ (i : ℕ). prefix_share n weights (i + 1) - prefix_share n weights i) 0 (length weights) i i 0 below
+    (omega arith)
 
 difference : (n : ℕ) (weights : List ℕ) → 1 ≤ weight_sum weights → (i : ℕ) → i < length weights
     → get_or (shares_in_proportion n weights) i 0 + prefix_share n weights i ≡ prefix_share n weights (i + 1)
 difference n weights some i below =
-    let q = quotients (n * prefix_sum weights i) (n * get_or weights i 0) (n * prefix_sum weights (i + 1)) (weight_sum weights) some (step_of n weights i below) in
+    let q = quotients (n * prefix_sum weights i) (n * get_or weights i 0) (n * prefix_sum weights (i + 1)) (weight_sum weights) some
+    (step_of n weights i below) in
     omega (arith, share_at n weights i below, q.0)
 
 within : (n : ℕ) (weights : List ℕ) → 1 ≤ weight_sum weights → (i : ℕ) → i < length weights
     → IsWithinOne n (get_or weights i 0) (weight_sum weights) (get_or (shares_in_proportion n weights) i 0)
 within n weights some i below =
-    let q = quotients (n * prefix_sum weights i) (n * get_or weights i 0) (n * prefix_sum weights (i + 1)) (weight_sum weights) some (step_of n weights i below) in
+    let q = quotients (n * prefix_sum weights i) (n * get_or weights i 0) (n * prefix_sum weights (i + 1)) (weight_sum weights) some
+    (step_of n weights i below) in
     rw share_at (record { above = q.1; below = q.2 })
 
 length-shares_in_proportion : (n : ℕ) (weights : List ℕ) → length (shares_in_proportion n weights) ≡ length weights
@@ -95,7 +101,8 @@ before n weights some (suc i) within =
     let below' : i < length weights = omega arith in
     let more = prefix-more (shares_in_proportion n weights) i below in
     let e : prefix_share n weights (i + 1) ≡ prefix_share n weights (suc i) = ap (prefix_share n weights) (add-one i) in
-    let f : prefix_sum (shares_in_proportion n weights) (i + 1) ≡ prefix_sum (shares_in_proportion n weights) (suc i) = ap (prefix_sum (shares_in_proportion n weights)) (add-one i) in
+    let f : prefix_sum (shares_in_proportion n weights) (i + 1) ≡ prefix_sum (shares_in_proportion n weights) (suc i) = ap
+    (prefix_sum (shares_in_proportion n weights)) (add-one i) in
     omega (arith, more, difference n weights some i below', before n weights some i (omega arith), e, f)
 
 -- ---- the laws
@@ -120,10 +127,12 @@ whole_share n sum some = mul-div_left n some
 pub shares_whole : (n : ℕ) (weights : List ℕ) → 1 ≤ length weights
     → nat_sum_over (λ share. share) (shares n weights) ≡ n
 shares_whole n weights some =
-    let all : take (length weights) (shares n weights) ≡ shares n weights = ap (λ k. take k (shares n weights)) (sym (length-shares n weights)) ∙ take-length (shares n weights) in
+    let all : take (length weights) (shares n weights) ≡ shares n weights = ap (λ k. take k (shares n weights)) (sym (length-shares n weights))
+    ∙ take-length (shares n weights) in
     let e = before_all n weights (length weights) (le_refl (length weights)) in
     let whole : prefix_share n (weights_or_ones weights) (length weights) ≡ n * weight_sum (weights_or_ones weights) / weight_sum (weights_or_ones weights) =
-    ap (λ k. prefix_share n (weights_or_ones weights) k) (sym (length-weights_or_ones weights)) ∙ ap (λ c. n * c / weight_sum (weights_or_ones weights)) (prefix-all (weights_or_ones weights)) in
+    ap (λ k. prefix_share n (weights_or_ones weights) k) (sym (length-weights_or_ones weights))
+    ∙ ap (λ c. n * c / weight_sum (weights_or_ones weights)) (prefix-all (weights_or_ones weights)) in
     ap weight_sum (sym all) ∙ e ∙ whole ∙ whole_share n (weight_sum (weights_or_ones weights)) (some_weight weights some)
 
 -- there is a share for each weight, and they add up to n
@@ -170,7 +179,8 @@ before_add_up n weights i within = record {
 -- a share and what the weights before it get make what the weights up to it get
 pub are_differences : SharesAreDifferences
 are_differences n weights i below = record {
-  by_weight = λ some. ap (λ ws. get_or (shares_in_proportion n ws) i 0 + prefix_share n weights i) (own_weights weights some) ∙ difference n weights some i below;
+  by_weight = λ some. ap (λ ws. get_or (shares_in_proportion n ws) i 0 + prefix_share n weights i) (own_weights weights some)
+      ∙ difference n weights some i below;
   evenly = λ none.
       let ones : List ℕ = replicate (length weights) 1 in
       let own = all_ones weights none in

@@ -26,13 +26,17 @@ next_sum sets n root sum plan so_far is =
 pub rounds_sum_to_plans : RoundsSumToPlans
 rounds_sum_to_plans form root zero order_one order_two some none = absurd (omega arith)
 rounds_sum_to_plans form root (suc zero) order_one order_two some none = record {
-  of_one = first_sum form.sets_one root (plan_of_play form.sets_one (play_of form.sets_one (opening form).regrets_one) root) (plays_deal_plans form.sets_one (play_of form.sets_one (opening form).regrets_one) root order_one some);
-  of_two = first_sum form.sets_two root (plan_of_play form.sets_two (play_of form.sets_two (opening form).regrets_two) root) (plays_deal_plans form.sets_two (play_of form.sets_two (opening form).regrets_two) root order_two some);
+  of_one = first_sum form.sets_one root (plan_of_play form.sets_one (play_of form.sets_one (opening form).regrets_one) root)
+      (plays_deal_plans form.sets_one (play_of form.sets_one (opening form).regrets_one) root order_one some);
+  of_two = first_sum form.sets_two root (plan_of_play form.sets_two (play_of form.sets_two (opening form).regrets_two) root)
+      (plays_deal_plans form.sets_two (play_of form.sets_two (opening form).regrets_two) root order_two some);
 }
 rounds_sum_to_plans form root (suc (suc n)) order_one order_two some more =
     let before : Standing = rounds form root (suc n) in
     let so_far : AreSumsOfPlans form root (suc n) = rounds_sum_to_plans form root (suc n) order_one order_two some (omega arith) in
     record {
-      of_one = next_sum form.sets_one (suc n) root before.sum_one (plan_of_play form.sets_one (play_of form.sets_one before.regrets_one) root) so_far.of_one (plays_deal_plans form.sets_one (play_of form.sets_one before.regrets_one) root order_one some);
-      of_two = next_sum form.sets_two (suc n) root before.sum_two (plan_of_play form.sets_two (play_of form.sets_two before.regrets_two) root) so_far.of_two (plays_deal_plans form.sets_two (play_of form.sets_two before.regrets_two) root order_two some);
+      of_one = next_sum form.sets_one (suc n) root before.sum_one (plan_of_play form.sets_one (play_of form.sets_one before.regrets_one) root) so_far.of_one
+          (plays_deal_plans form.sets_one (play_of form.sets_one before.regrets_one) root order_one some);
+      of_two = next_sum form.sets_two (suc n) root before.sum_two (plan_of_play form.sets_two (play_of form.sets_two before.regrets_two) root) so_far.of_two
+          (plays_deal_plans form.sets_two (play_of form.sets_two before.regrets_two) root order_two some);
     }

@@ -1,5 +1,6 @@
 -- The equations of a round and their solution.
-use Rattle.std.proofs.Common.{◌≡◌, ℕ, zero, suc, ◌+◌, ◌≤◌, ◌<◌, false, cond, eqb, List, [], ◌∷◌, ◌++◌, zip, length, drop, filter, slice_index, All, arith, ap, sym, ◌∙◌, refl, subst, append_assoc, length-append}
+use Rattle.std.proofs.Common.{◌≡◌, ℕ, zero, suc, ◌+◌, ◌≤◌, ◌<◌, false, cond, eqb, List, [], ◌∷◌, ◌++◌, zip, length, drop, filter, slice_index, All, arith, ap}
+use Rattle.std.proofs.Common.{sym, ◌∙◌, refl, subst, append_assoc, length-append}
 use Rattle.std.specs.Prelude.{slice_get, Some, ℤ, pos, ◌+ℤ◌, ◌*ℤ◌}
 use Rattle.std.specs.List.{AllZip}
 use Rattle.std.proofs.lemmas.List.Elements.{All-head, All-tail, All-cons, All-nil, All-append}
@@ -24,7 +25,8 @@ earlier_sets s [] back (v ∷ vs) back_values e less = absurd (omega arith)
 earlier_sets s (h ∷ hs) back [] back_values e less = absurd (omega arith)
 earlier_sets s (h ∷ hs) back (v ∷ vs) back_values e less =
     let not_here : eqb h.before s ≡ false = (let smaller : h.before < s = All-head (λ h'. h'.before < s) h hs less in grind (arith, nat_tests)) in
-    ap (λ b. cond b ((h, v) ∷ filter (λ p. eqb p.0.before s) (zip (hs ++ back) (vs ++ back_values))) (filter (λ p. eqb p.0.before s) (zip (hs ++ back) (vs ++ back_values)))) not_here
+    ap (λ b. cond b ((h, v) ∷ filter (λ p. eqb p.0.before s) (zip (hs ++ back) (vs ++ back_values)))
+    (filter (λ p. eqb p.0.before s) (zip (hs ++ back) (vs ++ back_values)))) not_here
     ∙ earlier_sets s hs back vs back_values (omega arith) (All-tail (λ h'. h'.before < s) h hs less)
 
 -- so the worth of s needs the later sets alone
@@ -39,7 +41,8 @@ pub set_value_same : (play : List ℕ) (f g : ℕ → ℤ) (h : PlacedSet)
     → ((s : ℕ) → h.first ≤ s → s < h.first + h.actions → f s ≡ g s) → set_value play f h ≡ set_value play g h
 set_value_same play f g h same =
     ap (λ n. floor_div n units) (sum_over-same (λ s. pos (slice_index play s) *ℤ f s) (λ s. pos (slice_index play s) *ℤ g s) (sequences_of h)
-    (All-range (λ s. pos (slice_index play s) *ℤ f s ≡ pos (slice_index play s) *ℤ g s) h.first h.actions (λ s low high. ap (λ w. pos (slice_index play s) *ℤ w) (same s low high))))
+    (All-range (λ s. pos (slice_index play s) *ℤ f s ≡ pos (slice_index play s) *ℤ g s) h.first h.actions
+    (λ s low high. ap (λ w. pos (slice_index play s) *ℤ w) (same s low high))))
 
 -- the sets before a place of the list, with the set there: all come after smaller sequences than that set's own
 pub record AreEarlier (front : List PlacedSet) (front_values : List ℤ) (first : ℕ) : Type 0 where
@@ -80,7 +83,8 @@ one_more_earlier front front_values h value earlier before = record {
 solves_from : (sums : ℕ → ℤ) (play : List ℕ) (front : List PlacedSet) (front_values : List ℤ) (first : ℕ)
     (sets : List InformationSet)
     → AreEarlier front front_values first → All IsInOrder (placed_from first sets)
-    → AllZip (λ h value. value ≡ set_value play (worth sums (front ++ placed_from first sets) (front_values ++ values_from sums play (placed_from first sets))) h) (placed_from first sets) (values_from sums play (placed_from first sets))
+    → AllZip (λ h value. value ≡ set_value play (worth sums (front ++ placed_from first sets) (front_values ++ values_from sums play (placed_from first sets)))
+    h) (placed_from first sets) (values_from sums play (placed_from first sets))
 solves_from sums play front front_values first [] earlier order = tt
 solves_from sums play front front_values first (set ∷ sets) earlier order =
     let h : PlacedSet = record { first = first; before = set.before; actions = set.actions } in
@@ -89,11 +93,14 @@ solves_from sums play front front_values first (set ∷ sets) earlier order =
     let value : ℤ = set_value play (worth sums rest values) h in
     let before : set.before < first = (All-head IsInOrder h rest order).1 in
     let here : value ≡ set_value play (worth sums (front ++ h ∷ rest) (front_values ++ value ∷ values)) h =
-    sym (set_value_same play (worth sums (front ++ h ∷ rest) (front_values ++ value ∷ values)) (worth sums rest values) h (λ s low high. worth_at_set sums front front_values h rest value values earlier before s low)) in
-    let later = solves_from sums play (front ++ h ∷ []) (front_values ++ value ∷ []) (first + set.actions) sets (one_more_earlier front front_values h value earlier before) (All-tail IsInOrder h rest order) in (
+    sym (set_value_same play (worth sums (front ++ h ∷ rest) (front_values ++ value ∷ values)) (worth sums rest values) h
+    (λ s low high. worth_at_set sums front front_values h rest value values earlier before s low)) in
+    let later = solves_from sums play (front ++ h ∷ []) (front_values ++ value ∷ []) (first + set.actions) sets
+    (one_more_earlier front front_values h value earlier before) (All-tail IsInOrder h rest order) in (
       here,
       subst (λ vs. AllZip (λ h' v. v ≡ set_value play (worth sums (front ++ h ∷ rest) vs) h') rest values) (append_assoc front_values (value ∷ []) values)
-          (subst (λ hs. AllZip (λ h' v. v ≡ set_value play (worth sums hs ((front_values ++ value ∷ []) ++ values)) h') rest values) (append_assoc front (h ∷ []) rest) later),
+          (subst (λ hs. AllZip (λ h' v. v ≡ set_value play (worth sums hs ((front_values ++ value ∷ []) ++ values)) h') rest values)
+          (append_assoc front (h ∷ []) rest) later),
     )
 
 -- an empty front comes before any sequence
@@ -118,13 +125,17 @@ unique_from sums play front front_values first (set ∷ sets) (value ∷ values)
     let rest : List PlacedSet = placed_from (first + set.actions) sets in
     let before : set.before < first = (All-head IsInOrder h rest order).1 in
     let later =
-    subst (λ hs. AllZip (λ h' v. v ≡ set_value play (worth sums hs ((front_values ++ value ∷ []) ++ values)) h') rest values) (sym (append_assoc front (h ∷ []) rest))
-    (subst (λ vs. AllZip (λ h' v. v ≡ set_value play (worth sums (front ++ h ∷ rest) vs) h') rest values) (sym (append_assoc front_values (value ∷ []) values)) all.1) in
+    subst (λ hs. AllZip (λ h' v. v ≡ set_value play (worth sums hs ((front_values ++ value ∷ []) ++ values)) h') rest values)
+    (sym (append_assoc front (h ∷ []) rest))
+    (subst (λ vs. AllZip (λ h' v. v ≡ set_value play (worth sums (front ++ h ∷ rest) vs) h') rest values) (sym (append_assoc front_values (value ∷ []) values))
+    all.1) in
     let tail : values ≡ values_from sums play rest =
-    unique_from sums play (front ++ h ∷ []) (front_values ++ value ∷ []) (first + set.actions) sets values (one_more_earlier front front_values h value earlier before) (All-tail IsInOrder h rest order) later in
+    unique_from sums play (front ++ h ∷ []) (front_values ++ value ∷ []) (first + set.actions) sets values
+    (one_more_earlier front front_values h value earlier before) (All-tail IsInOrder h rest order) later in
     let head : value ≡ set_value play (worth sums rest (values_from sums play rest)) h =
     all.0
-    ∙ set_value_same play (worth sums (front ++ h ∷ rest) (front_values ++ value ∷ values)) (worth sums rest values) h (λ s low high. worth_at_set sums front front_values h rest value values earlier before s low)
+    ∙ set_value_same play (worth sums (front ++ h ∷ rest) (front_values ++ value ∷ values)) (worth sums rest values) h
+    (λ s low high. worth_at_set sums front front_values h rest value values earlier before s low)
     ∙ ap (λ vs. set_value play (worth sums rest vs) h) tail in
     ap (λ v. v ∷ values) head ∙ ap (λ vs. set_value play (worth sums rest (values_from sums play rest)) h ∷ vs) tail
 

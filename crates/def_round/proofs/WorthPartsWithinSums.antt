@@ -36,7 +36,8 @@ parts_at sums play first (h ∷ hs) s order whole low high =
     let later = All-tail IsInOrder here rest order in
     let whole' = All-tail (PlaysAllUnits play) here rest whole in
     let skips : hanging_size s (zip (here ∷ rest) (value ∷ vs)) ≡ hanging_size s (zip rest vs) =
-    kept (eqb h.before s) (here, value) (filter (λ p. eqb p.0.before s) (zip rest vs)) ∙ not_here h.before s (unsigned_abs value) (hanging_size s (zip rest vs)) (omega arith)
+    kept (eqb h.before s) (here, value) (filter (λ p. eqb p.0.before s) (zip rest vs))
+    ∙ not_here h.before s (unsigned_abs value) (hanging_size s (zip rest vs)) (omega arith)
     in
     ⊎_elim
     (λ inside.
@@ -58,6 +59,12 @@ worth_parts_are_within_sums sums play sets order whole s low =
     (λ empty.
     let none : s ≡ 0 = omega arith in
     let same : unsigned_abs (sums s) ≡ unsigned_abs (sums 0) = ap (λ t. unsigned_abs (sums t)) none in
-    omega (arith, same, all_sums sums sets, hangs sums play 1 sets whole, after-hanging s 0 1 (zip (placed sets) (round_values sums play sets)) (omega arith) empty))
+    omega (
+      arith,
+      same,
+      all_sums sums sets,
+      hangs sums play 1 sets whole,
+      after-hanging s 0 1 (zip (placed sets) (round_values sums play sets)) (omega arith) empty,
+    ))
     (λ some. omega (arith, all_sums sums sets, parts_at sums play 1 sets s order whole some low))
     (cases_lt s 1)

@@ -1,15 +1,18 @@
 -- The laws of plays and rounds.
-use Rattle.std.specs.Prelude.{◌≡◌, ℕ, ◌+◌, ◌*◌, ◌/◌, ◌≤◌, ◌↔◌, ℤ, pos, neg_ℤ, ◌*ℤ◌, ◌≤ℤ◌, ◌<ℤ◌, List, length, map, drop, replicate, All, slice_index, slice_get, Some}
+use Rattle.std.specs.Prelude.{◌≡◌, ℕ, ◌+◌, ◌*◌, ◌/◌, ◌≤◌, ◌↔◌, ℤ, pos, neg_ℤ, ◌*ℤ◌, ◌≤ℤ◌, ◌<ℤ◌, List, length, map, drop}
+use Rattle.std.specs.Prelude.{replicate, All, slice_index, slice_get, Some}
 use Rattle.std.specs.List.{range_with_len}
 use Rattle.def_sums.specs.Sum.{sum_over, nat_sum_over}
 use Rattle.def_sums.specs.Floor.{IsFloorOf}
-use Rattle.def_plan.specs.Form.{InformationSet, PlacedSet, placed, sequences_of, sequence_count, AreInOrder, SequenceForm}
+use Rattle.def_plan.specs.Form.{InformationSet, PlacedSet, placed, sequences_of, sequence_count, AreInOrder}
+use Rattle.def_plan.specs.Form.{SequenceForm}
 use Rattle.def_plan.specs.Plan.{IsPlan, cleared}
 use Rattle.def_plan.specs.Payoff.{AgreeOn, worth, gain, pay}
 use Rattle.def_tree.specs.declared.Player.TheVariants.{One, Two}
 use Rattle.def_round.specs.Shares.{shares}
 use Rattle.def_round.specs.ShareLaws.{IsWithinOne}
-use Rattle.def_round.specs.Play.{units, positive_part, regret_of, regret_sum, IsSequenceOf, set_play, play_of, GivesAllUnits, plan_of_play}
+use Rattle.def_round.specs.Play.{units, positive_part, regret_of, regret_sum, IsSequenceOf, set_play, play_of}
+use Rattle.def_round.specs.Play.{GivesAllUnits, plan_of_play}
 use Rattle.def_round.specs.Round.{own_sum, set_value, AreValues, values_from, round_values, IsRound, regrets_after}
 use Rattle.def_round.specs.Rounds.{Standing, rounds}
 
@@ -30,7 +33,8 @@ PlaysGiveAllUnits = (sets : List InformationSet) (regrets : List ℤ) → AreInO
 -- regret matching: where some action of a set has a positive regret, those without one are not played
 abbrev pub PlaysPositiveRegrets : Type 0
 PlaysPositiveRegrets = (sets : List InformationSet) (regrets : List ℤ)
-    → All (λ h. (s t : ℕ) → IsSequenceOf h s → IsSequenceOf h t → pos 0 <ℤ regret_of regrets t → regret_of regrets s ≤ℤ pos 0 → slice_index (play_of sets regrets) s ≡ 0) (placed sets)
+    → All (λ h. (s t : ℕ) → IsSequenceOf h s → IsSequenceOf h t → pos 0 <ℤ regret_of regrets t → regret_of regrets s
+    ≤ℤ pos 0 → slice_index (play_of sets regrets) s ≡ 0) (placed sets)
 
 -- the positive part of a regret is the regret, or 0 where it isn't positive
 pub record PositivePartsAreExact : Type 0 where
@@ -45,7 +49,8 @@ pub record IsInProportion (regrets : List ℤ) (play : List ℕ) (h : PlacedSet)
       → IsWithinOne units (positive_part (regret_of regrets s)) (regret_sum regrets h) (slice_index play s)
   pub first_actions : (i : ℕ) → i ≤ h.actions → 1 ≤ regret_sum regrets h
       → nat_sum_over (λ s. slice_index play s) (range_with_len h.first i)
-      ≡ units * nat_sum_over (λ s. positive_part (regret_of regrets s)) (range_with_len h.first i) / regret_sum regrets h
+      ≡ units * nat_sum_over (λ s. positive_part (regret_of regrets s)) (range_with_len h.first i)
+      / regret_sum regrets h
   pub evenly : (i : ℕ) → i ≤ h.actions → regret_sum regrets h ≡ 0
       → nat_sum_over (λ s. slice_index play s) (range_with_len h.first i) ≡ units * i / h.actions
 
@@ -62,12 +67,14 @@ PlaysDealPlans = (sets : List InformationSet) (play : List ℕ) (root : ℕ) →
 abbrev pub PlaysDealByShares : Type 0
 PlaysDealByShares = (sets : List InformationSet) (play : List ℕ) (root : ℕ) → AreInOrder sets
     → let plan : List ℕ = plan_of_play sets play root in
-    All (λ h. map (λ s. slice_index plan s) (sequences_of h) ≡ shares (slice_index plan h.before) (map (λ s. slice_index play s) (sequences_of h))) (placed sets)
+    All (λ h. map (λ s. slice_index plan s) (sequences_of h)
+    ≡ shares (slice_index plan h.before) (map (λ s. slice_index play s) (sequences_of h))) (placed sets)
 
 -- no other plan does
 pub record IsPlanOfPlay (sets : List InformationSet) (play : List ℕ) (root : ℕ) (plan : List ℕ) : Type 0 where
   pub is_plan : IsPlan sets root plan
-  pub each_set : All (λ h. map (λ s. slice_index plan s) (sequences_of h) ≡ shares (slice_index plan h.before) (map (λ s. slice_index play s) (sequences_of h))) (placed sets)
+  pub each_set : All (λ h. map (λ s. slice_index plan s) (sequences_of h)
+      ≡ shares (slice_index plan h.before) (map (λ s. slice_index play s) (sequences_of h))) (placed sets)
 
 abbrev pub PlansOfPlaysAreUnique : Type 0
 PlansOfPlaysAreUnique = (sets : List InformationSet) (play : List ℕ) (root : ℕ) (plan : List ℕ) → AreInOrder sets
@@ -148,8 +155,10 @@ pub record IsNextRound (form : SequenceForm) (root : ℕ) (before after : Standi
   pub deals_of_two : IsPlanOfPlay form.sets_two play_two root plan_two
   pub sum_of_one : GrowsBy before.sum_one plan_one after.sum_one
   pub sum_of_two : GrowsBy before.sum_two plan_two after.sum_two
-  pub regrets_of_one : IsRound (own_sum One form.leaves plan_two) play_one form.sets_one before.regrets_one after.regrets_one
-  pub regrets_of_two : IsRound (own_sum Two form.leaves plan_one) play_two form.sets_two before.regrets_two after.regrets_two
+  pub regrets_of_one : IsRound (own_sum One form.leaves plan_two) play_one form.sets_one before.regrets_one
+      after.regrets_one
+  pub regrets_of_two : IsRound (own_sum Two form.leaves plan_one) play_two form.sets_two before.regrets_two
+      after.regrets_two
 
 -- so a run begins, and so each round follows from the one before it, the first and every later one
 pub record RoundsFollow : Type 0 where

@@ -1,7 +1,8 @@
 -- Regret matching in whole units (Zinkevich, Johanson, Bowling and Piccione 2007): at each set an action is played in
 -- proportion to the positive part of its regret. Regrets and plays are lists with a number for each sequence; the
 -- empty sequence, at which no action ends, has 0.
-use Rattle.std.specs.Prelude.{◌≡◌, ℕ, ◌+◌, ◌≤◌, ◌<◌, ℤ, pos, negsuc, List, ◌∷◌, map, All, flat_map, slice_index, slice_index_or}
+use Rattle.std.specs.Prelude.{◌≡◌, ℕ, ◌+◌, ◌≤◌, ◌<◌, ℤ, pos, negsuc, List, ◌∷◌, map, All, flat_map, slice_index}
+use Rattle.std.specs.Prelude.{slice_index_or}
 use Rattle.def_sums.specs.Sum.{nat_sum_over}
 use Rattle.def_plan.specs.Form.{InformationSet, PlacedSet, placed, sequences_of}
 use Rattle.def_plan.specs.Plan.{dealt}

@@ -1,7 +1,8 @@
 -- One round of counterfactual regret minimisation (Zinkevich, Johanson, Bowling and Piccione 2007) in fixed point: the
 -- counterfactual values of a player's sequences and sets against a plan of the other player,
 -- and the regrets that they add.
-use Rattle.std.specs.Prelude.{◌≡◌, ℕ, ℤ, pos, neg_ℤ, ◌+ℤ◌, ◌-ℤ◌, ◌*ℤ◌, List, [], ◌∷◌, map, zip, length, All, flat_map, slice_index}
+use Rattle.std.specs.Prelude.{◌≡◌, ℕ, ℤ, pos, neg_ℤ, ◌+ℤ◌, ◌-ℤ◌, ◌*ℤ◌, List, [], ◌∷◌, map, zip, length, All, flat_map}
+use Rattle.std.specs.Prelude.{slice_index}
 use Rattle.std.specs.List.{AllZip}
 use Rattle.def_sums.specs.Sum.{sum_over}
 use Rattle.def_sums.specs.Floor.{floor_div}
@@ -46,7 +47,8 @@ pub record AddsRegrets (sums : ℕ → ℤ) (sets : List InformationSet) (values
     (before after : List ℤ) : Type 0 where
   pub all_sequences : length after ≡ sequence_count sets
   pub none_of_empty : regret_of after 0 ≡ pos 0
-  pub each_set : AllZip (λ h value. All (λ s. regret_of after s ≡ regret_of before s +ℤ (worth sums (placed sets) values s -ℤ value)) (sequences_of h)) (placed sets) values
+  pub each_set : AllZip (λ h value. All (λ s. regret_of after s ≡ regret_of before s
+      +ℤ (worth sums (placed sets) values s -ℤ value)) (sequences_of h)) (placed sets) values
 
 -- the regrets after a round of a player, by the equations
 pub record IsRound (sums : ℕ → ℤ) (play : List ℕ) (sets : List InformationSet) (before after : List ℤ) : Type 0 where

@@ -34,7 +34,8 @@ round_with form before play_one play_two plan_one plan_two = record {
 -- both plans are made from the regrets as they stand
 abbrev pub round_by_play : SequenceForm → ℕ → Standing → List ℕ → List ℕ → Standing
 round_by_play form root before play_one play_two =
-    round_with form before play_one play_two (plan_of_play form.sets_one play_one root) (plan_of_play form.sets_two play_two root)
+    round_with form before play_one play_two (plan_of_play form.sets_one play_one root)
+    (plan_of_play form.sets_two play_two root)
 
 abbrev pub next_round : SequenceForm → ℕ → Standing → Standing
 next_round form root before =

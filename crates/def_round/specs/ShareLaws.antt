@@ -40,7 +40,8 @@ pub record IsWithinOne (n weight sum share : ℕ) : Type 0 where
 
 abbrev pub SharesAreInProportion : Type 0
 SharesAreInProportion = (n : ℕ) (weights : List ℕ) (i : ℕ) → i < length weights
-    → IsWithinOne n (slice_index (weights_or_ones weights) i) (weight_sum (weights_or_ones weights)) (slice_index (shares n weights) i)
+    → IsWithinOne n (slice_index (weights_or_ones weights) i) (weight_sum (weights_or_ones weights))
+    (slice_index (shares n weights) i)
 
 -- what has no weight gets nothing, where something has a weight
 abbrev pub NoWeightNoShare : Type 0

@@ -21,7 +21,8 @@ prefix_share n weights i = n * prefix_sum weights i / weight_sum weights
 
 -- share i, counted from 0, is what the first i + 1 weights get together without what the first i get
 abbrev pub shares_in_proportion : ℕ → List ℕ → List ℕ
-shares_in_proportion n weights = map (λ i. prefix_share n weights (i + 1) - prefix_share n weights i) (range_with_len 0 (length weights))
+shares_in_proportion n weights = map (λ i. prefix_share n weights (i + 1) - prefix_share n weights i)
+    (range_with_len 0 (length weights))
 
 abbrev pub shares : ℕ → List ℕ → List ℕ
 shares n weights = shares_in_proportion n (weights_or_ones weights)

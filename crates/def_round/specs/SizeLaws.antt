@@ -15,7 +15,8 @@ use Rattle.def_round.specs.Sizes.{size_of_sums, IsWithin, RegretsAreWithin, IsWi
 
 -- a player's leaf sums against a plan, together, are at most the mass times the plan's root
 abbrev pub OwnSumsAreSmall : Type 0
-OwnSumsAreSmall = (player : Player) (leaves : List Leaf) (sets against_sets : List InformationSet) (root : ℕ) (plan : List ℕ)
+OwnSumsAreSmall = (player : Player) (leaves : List Leaf) (sets against_sets : List InformationSet) (root : ℕ)
+    (plan : List ℕ)
     → AreInOrder against_sets → IsPlan against_sets root plan
     → size_of_sums (own_sum player leaves plan) sets ≤ mass_of leaves * root
 
@@ -24,7 +25,8 @@ OwnSumsAreSmall = (player : Player) (leaves : List Leaf) (sets against_sets : Li
 abbrev pub ValuesAreWithinSums : Type 0
 ValuesAreWithinSums = (sums : ℕ → ℤ) (play : List ℕ) (sets : List InformationSet) → AreInOrder sets
     → GivesAllUnits play sets
-    → AllZip (IsWithin (size_of_sums sums sets) sums play sets (round_values sums play sets)) (placed sets) (round_values sums play sets)
+    → AllZip (IsWithin (size_of_sums sums sets) sums play sets (round_values sums play sets)) (placed sets)
+    (round_values sums play sets)
 
 abbrev pub WorthsAreWithinSums : Type 0
 WorthsAreWithinSums = (sums : ℕ → ℤ) (play : List ℕ) (sets : List InformationSet) → AreInOrder sets
@@ -37,7 +39,8 @@ abbrev pub WorthPartsAreWithinSums : Type 0
 WorthPartsAreWithinSums = (sums : ℕ → ℤ) (play : List ℕ) (sets : List InformationSet) → AreInOrder sets
     → GivesAllUnits play sets
     → (s : ℕ) → s < sequence_count sets
-    → unsigned_abs (sums s) + nat_sum_over (λ p. unsigned_abs p.1) (filter (λ p. p.0.before == s) (zip (placed sets) (round_values sums play sets))) ≤ size_of_sums sums sets
+    → unsigned_abs (sums s) + nat_sum_over (λ p. unsigned_abs p.1)
+    (filter (λ p. p.0.before == s) (zip (placed sets) (round_values sums play sets))) ≤ size_of_sums sums sets
 
 -- a round adds at most the leaf sums together to a regret, whatever regrets and plays it begins with
 abbrev pub RegretsGrowByTheSums : Type 0

@@ -50,7 +50,8 @@ each_is_of_a_round form run every last place d within =
     let in_range : place < length ks = omega (arith, length_evaluations form run ks, within) in
     let k : ℕ = get_or ks place 0 in
     let facts = (rounds_evaluated.which every last k).0 (Contains-get_or ks place 0 in_range) in
-    subst (IsEndIn form run every last) (sym (get_or_map form run ks place d in_range)) (record { is = refl; some = facts.0; in_time = facts.1; evaluated = facts.2 })
+    subst (IsEndIn form run every last) (sym (get_or_map form run ks place d in_range))
+    (record { is = refl; some = facts.0; in_time = facts.1; evaluated = facts.2 })
 
 -- each is divided by what its rounds weigh, so none by 0
 pub divided_in : (form : SequenceForm) (run : WeighedRun) (every last : ℕ) → HasWeights run
@@ -99,17 +100,20 @@ weighed_ends_are_bounds form root run every last ends order_one order_two sums a
     record {
       lower_plan = low.plan_one;
       floor = subst (IsFloor form (lower_plan_in run ends)) is_low low.floor;
-      floor_attained = subst (λ z. AttainsFloor form (lower_plan_in run ends) z (pure_plan form.sets_two (choices_of (reply_to form Two (lower_plan_in run ends))))) is_low low.floor_attained;
+      floor_attained = subst (λ z. AttainsFloor form (lower_plan_in run ends) z
+          (pure_plan form.sets_two (choices_of (reply_to form Two (lower_plan_in run ends))))) is_low low.floor_attained;
       upper_plan = high.plan_two;
       ceiling = subst (IsCeiling form (upper_plan_in run ends)) is_high high.ceiling;
-      ceiling_attained = subst (λ z. AttainsCeiling form (upper_plan_in run ends) z (pure_plan form.sets_one (choices_of (reply_to form One (upper_plan_in run ends))))) is_high high.ceiling_attained;
+      ceiling_attained = subst (λ z. AttainsCeiling form (upper_plan_in run ends) z
+          (pure_plan form.sets_one (choices_of (reply_to form One (upper_plan_in run ends))))) is_high high.ceiling_attained;
     }
 
 -- both sides without the root
 without_root : (low high : ℤ) (one two root : ℕ) → 1 ≤ root → (pos (two * root) *ℤ low) ≤ℤ (pos (one * root) *ℤ high)
     → (low *ℤ pos two) ≤ℤ (high *ℤ pos one)
 without_root low high one two root some le =
-    *ℤ-cancel root (low *ℤ pos two) (high *ℤ pos one) some (subst (λ a. a ≤ℤ (pos root *ℤ (high *ℤ pos one))) (turned two low) (subst (λ b. (pos (two * root) *ℤ low) ≤ℤ b) (turned one high) le))
+    *ℤ-cancel root (low *ℤ pos two) (high *ℤ pos one) some (subst (λ a. a ≤ℤ (pos root *ℤ (high *ℤ pos one))) (turned two low)
+    (subst (λ b. (pos (two * root) *ℤ low) ≤ℤ b) (turned one high) le))
   where
     turned : (n : ℕ) (z : ℤ) → pos (n * root) *ℤ z ≡ pos root *ℤ (z *ℤ pos n)
     turned n z =
@@ -120,7 +124,8 @@ pub weighed_ends_are_in_order : WeighedEndsAreInOrder
 weighed_ends_are_in_order form root run every last ends order_one order_two some sums are =
     let b = weighed_ends_are_bounds form root run every last ends order_one order_two sums are in
     without_root ends.lower.low ends.upper.high (run.weight ends.lower.round) (run.weight ends.upper.round) root some
-    (floors_below form (run.weight ends.lower.round * root) (run.weight ends.upper.round * root) (lower_plan_in run ends) (upper_plan_in run ends) ends.lower.low ends.upper.high b.lower_plan b.upper_plan b.floor b.ceiling)
+    (floors_below form (run.weight ends.lower.round * root) (run.weight ends.upper.round * root) (lower_plan_in run ends) (upper_plan_in run ends)
+    ends.lower.low ends.upper.high b.lower_plan b.upper_plan b.floor b.ceiling)
 
 -- each over its plan's root, the two ends are apart by the total exploitability of the two plans
 pub gap_of_weighed_run_is_exploitability : GapOfWeighedRunIsExploitability
@@ -129,8 +134,16 @@ gap_of_weighed_run_is_exploitability form root run every last ends order_one ord
     record {
       best = ends.upper.high;
       left = ends.lower.low;
-      is_best = record { reply = pure_plan form.sets_one (choices_of (reply_to form One (upper_plan_in run ends))); ceiling = b.ceiling; attained = b.ceiling_attained };
-      is_left = record { reply = pure_plan form.sets_two (choices_of (reply_to form Two (lower_plan_in run ends))); floor = b.floor; attained = b.floor_attained };
+      is_best = record {
+        reply = pure_plan form.sets_one (choices_of (reply_to form One (upper_plan_in run ends)));
+        ceiling = b.ceiling;
+        attained = b.ceiling_attained;
+      };
+      is_left = record {
+        reply = pure_plan form.sets_two (choices_of (reply_to form Two (lower_plan_in run ends)));
+        floor = b.floor;
+        attained = b.floor_attained;
+      };
       is = refl;
     }
 
@@ -139,10 +152,12 @@ pub weighed_ends_bound_all_plans : WeighedEndsBoundAllPlans
 weighed_ends_bound_all_plans = record {
   floors = λ form root run every last ends plan_root plan_one floor order_one order_two sums are is_plan is_floor.
       let b = weighed_ends_are_bounds form root run every last ends order_one order_two sums are in
-      floors_below form plan_root (run.weight ends.upper.round * root) plan_one (upper_plan_in run ends) floor ends.upper.high is_plan b.upper_plan is_floor b.ceiling;
+      floors_below form plan_root (run.weight ends.upper.round * root) plan_one (upper_plan_in run ends) floor ends.upper.high is_plan b.upper_plan is_floor
+      b.ceiling;
   ceilings = λ form root run every last ends plan_root plan_two ceiling order_one order_two sums are is_plan is_ceiling.
       let b = weighed_ends_are_bounds form root run every last ends order_one order_two sums are in
-      floors_below form (run.weight ends.lower.round * root) plan_root (lower_plan_in run ends) plan_two ends.lower.low ceiling b.lower_plan is_plan b.floor is_ceiling;
+      floors_below form (run.weight ends.lower.round * root) plan_root (lower_plan_in run ends) plan_two ends.lower.low ceiling b.lower_plan is_plan b.floor
+      is_ceiling;
 }
 
 -- and the sums of plain rounds are plans

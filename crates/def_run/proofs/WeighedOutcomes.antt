@@ -52,8 +52,10 @@ from_offer kept_of form run ks e kept d from =
 pub weighed_outcomes_show_their_run : WeighedOutcomesShowTheirRun
 weighed_outcomes_show_their_run = record {
   head = λ form run head. refl;
-  trace = λ form run head. offers_are_traced (offers_in form run head.every head.rounds) ∙ ap trace (evaluated form run (evaluated_rounds head.every head.rounds));
-  no_ends = λ form run head none. ap (λ n. both_ends (board_after (offers_in form run head.every n)).lower (board_after (offers_in form run head.every n)).upper) none;
+  trace = λ form run head. offers_are_traced (offers_in form run head.every head.rounds)
+      ∙ ap trace (evaluated form run (evaluated_rounds head.every head.rounds));
+  no_ends = λ form run head none. ap (λ n. both_ends (board_after (offers_in form run head.every n)).lower
+      (board_after (offers_in form run head.every n)).upper) none;
   ends = λ form run head ends are.
       let ks : List ℕ = evaluated_rounds head.every head.rounds in
       let os : List Offer = offers_in form run head.every head.rounds in

@@ -1,5 +1,6 @@
 -- What the evaluations of a run of plain rounds are worth: what holds of every run that sums plans.
-use Rattle.std.specs.Prelude.{◌≡◌, ℕ, ◌*◌, ◌≤◌, ◌<◌, ℤ, pos, ◌-ℤ◌, ◌*ℤ◌, ◌≤ℤ◌, List, length, slice_index_or, All, Some, None}
+use Rattle.std.specs.Prelude.{◌≡◌, ℕ, ◌*◌, ◌≤◌, ◌<◌, ℤ, pos, ◌-ℤ◌, ◌*ℤ◌, ◌≤ℤ◌, List, length, slice_index_or, All, Some}
+use Rattle.std.specs.Prelude.{None}
 use Rattle.def_sums.specs.Limits.{most_scale, most_rounds}
 use Rattle.def_plan.specs.Form.{SequenceForm, AreInOrder}
 use Rattle.def_plan.specs.Plan.{IsPlan}
@@ -41,7 +42,8 @@ EndsAreInOrder = (form : SequenceForm) (root every last : ℕ) (ends : BracketEn
 abbrev pub TraceOfRunNeverWidens : Type 0
 TraceOfRunNeverWidens = (form : SequenceForm) (root every last j k : ℕ) (line : TraceLine) → j ≤ k
     → k < length (trace (evaluations form root every last))
-    → LiesWithin (slice_index_or (trace (evaluations form root every last)) k line) (slice_index_or (trace (evaluations form root every last)) j line)
+    → LiesWithin (slice_index_or (trace (evaluations form root every last)) k line)
+    (slice_index_or (trace (evaluations form root every last)) j line)
 
 abbrev pub TraceOfRunLooksBack : Type 0
 TraceOfRunLooksBack = (form : SequenceForm) (root every last : ℕ)
@@ -59,7 +61,8 @@ abbrev pub GapOfRunIsExploitability : Type 0
 GapOfRunIsExploitability = (form : SequenceForm) (root every last : ℕ) (ends : BracketEnds) → AreInOrder form.sets_one
     → AreInOrder form.sets_two → 1 ≤ root
     → ends_of (evaluations form root every last) ≡ Some ends
-    → IsExploitability form (ends.lower.round * root) (ends.upper.round * root) (plan_at_lower form root ends) (plan_at_upper form root ends)
+    → IsExploitability form (ends.lower.round * root) (ends.upper.round * root) (plan_at_lower form root ends)
+    (plan_at_upper form root ends)
     ((pos (ends.lower.round * root) *ℤ ends.upper.high) -ℤ (pos (ends.upper.round * root) *ℤ ends.lower.low))
 
 -- no plan of player one has a floor that, over its root, exceeds the upper end, and no plan of player two has a ceiling
@@ -93,4 +96,5 @@ pub record OutcomesShowTheirRun : Type 0 where
   pub no_ends : (form : SequenceForm) (head : Head) → head.rounds ≡ 0 → (outcome form head).ends ≡ None
   pub ends : (form : SequenceForm) (head : Head) (ends : BracketEnds)
       → ends_of (evaluations form head.scale head.every head.rounds) ≡ Some ends
-      → (shown : OutcomeEnds) × ((outcome form head).ends ≡ Some shown) × HasPlansIn form (plain_run form head.scale) ends shown
+      → (shown : OutcomeEnds) × ((outcome form head).ends ≡ Some shown)
+      × HasPlansIn form (plain_run form head.scale) ends shown

@@ -1,5 +1,5 @@
--- A run: rounds that sum both players' plans, and its evaluations: after an evaluated round both sums of plans are met by
--- best replies, whose totals are the floor and the ceiling of the average strategies.
+-- A run: rounds that sum both players' plans, and its evaluations: after an evaluated round both sums of plans are met
+-- by best replies, whose totals are the floor and the ceiling of the average strategies.
 -- A run is told by its sums and by what its rounds weigh, whatever makes the plans; plain rounds weigh 1 each.
 --     reply_to, total_against     a player's best reply to a plan, and its total
 --     WeighedRun, SumsPlans       a run, and that its sums are plans
@@ -23,7 +23,8 @@ abbrev pub reply_to : SequenceForm → Player → List ℕ → List SetReply
 reply_to form player plan = best_reply player (leaf_sum player form.leaves plan) (player_sets form player)
 
 abbrev pub total_against : SequenceForm → Player → List ℕ → ℤ
-total_against form player plan = total (leaf_sum player form.leaves plan) (player_sets form player) (reply_to form player plan)
+total_against form player plan = total (leaf_sum player form.leaves plan) (player_sets form player)
+    (reply_to form player plan)
 
 -- ---- runs
 

@@ -12,7 +12,8 @@ use Rattle.def_reply.specs.declared.TraceLine.{TraceLine}
 use Rattle.def_reply.specs.BracketLaws.{LooksBack}
 use Rattle.def_reply.specs.Offers.{IsFair, most_divisor}
 use Rattle.def_reply.specs.Outcome.{Head, OutcomeEnds}
-use Rattle.def_run.specs.Run.{reply_to, WeighedRun, HasWeights, SumsPlans, evaluation_in, evaluations_in, offer_in, outcome_in}
+use Rattle.def_run.specs.Run.{reply_to, WeighedRun, HasWeights, SumsPlans, evaluation_in, evaluations_in, offer_in}
+use Rattle.def_run.specs.Run.{outcome_in}
 use Rattle.def_run.specs.Run.{lower_plan_in, upper_plan_in, plain_run}
 
 -- plain rounds are such a run
@@ -100,8 +101,10 @@ abbrev pub GapOfWeighedRunIsExploitability : Type 0
 GapOfWeighedRunIsExploitability = (form : SequenceForm) (root : ℕ) (run : WeighedRun) (every last : ℕ)
     (ends : BracketEnds) → AreInOrder form.sets_one → AreInOrder form.sets_two → SumsPlans form root run
     → ends_of (evaluations_in form run every last) ≡ Some ends
-    → IsExploitability form (run.weight ends.lower.round * root) (run.weight ends.upper.round * root) (lower_plan_in run ends) (upper_plan_in run ends)
-    ((pos (run.weight ends.lower.round * root) *ℤ ends.upper.high) -ℤ (pos (run.weight ends.upper.round * root) *ℤ ends.lower.low))
+    → IsExploitability form (run.weight ends.lower.round * root) (run.weight ends.upper.round * root)
+    (lower_plan_in run ends) (upper_plan_in run ends)
+    ((pos (run.weight ends.lower.round * root) *ℤ ends.upper.high)
+    -ℤ (pos (run.weight ends.upper.round * root) *ℤ ends.lower.low))
 
 -- no plan of player one has a floor that, over its root, exceeds the upper end, and no plan of player two has a ceiling
 -- that is below the lower end
@@ -126,8 +129,8 @@ WeighedOffersAreFair = (form : SequenceForm) (root : ℕ) (run : WeighedRun) (ro
     → run.weight round * root ≤ most_root → (last : ℕ) → last < round
     → IsFair form last (offer_in form run round)
 
--- the outcome has the head, the trace of the evaluations and, where a round was asked, the sums of plans at both ends of
--- the bracket with the best replies to them
+-- the outcome has the head, the trace of the evaluations and, where a round was asked, the sums of plans at both ends
+-- of the bracket with the best replies to them
 pub record HasPlansIn (form : SequenceForm) (run : WeighedRun) (ends : BracketEnds) (shown : OutcomeEnds) : Type 0 where
   pub lower_plan : shown.lower.plan ≡ lower_plan_in run ends
   pub lower_reply : shown.lower.reply ≡ best_reply_to form Two (lower_plan_in run ends)

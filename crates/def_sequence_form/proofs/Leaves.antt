@@ -32,15 +32,18 @@ leaves_alike : (vs : List Visit)
     ≡ length (filter (λ (n : Node). is_leaf_kind n.kind) (map visited_node vs))
 leaves_alike [] = refl
 leaves_alike (v ∷ rest) =
-    elim (is_leaf_kind v.node.kind) as (λ b. length (cond b (v ∷ filter (λ (w : Visit). is_leaf_kind w.node.kind) rest) (filter (λ (w : Visit). is_leaf_kind w.node.kind) rest))
-    ≡ length (cond b (v.node ∷ filter (λ (n : Node). is_leaf_kind n.kind) (map visited_node rest)) (filter (λ (n : Node). is_leaf_kind n.kind) (map visited_node rest)))) [
+    elim (is_leaf_kind v.node.kind) as (λ b. length (cond b (v ∷ filter (λ (w : Visit). is_leaf_kind w.node.kind) rest)
+    (filter (λ (w : Visit). is_leaf_kind w.node.kind) rest))
+    ≡ length (cond b (v.node ∷ filter (λ (n : Node). is_leaf_kind n.kind) (map visited_node rest))
+    (filter (λ (n : Node). is_leaf_kind n.kind) (map visited_node rest)))) [
       | true ↦ ap suc (leaves_alike rest)
       | false ↦ leaves_alike rest
     ]
 
 -- a tree has as many visits of leaves as leaves
 pub leaves_counted : (tree : Forest) → length (leaf_visits tree) ≡ leaf_count (prefix tree)
-leaves_counted tree = leaves_alike (visits tree) ∙ ap (λ ns. length (filter (λ (n : Node). is_leaf_kind n.kind) ns)) (map-visits_from (λ _. []) 1 tree) ∙ length-filter (λ (n : Node). is_leaf_kind n.kind) (prefix tree)
+leaves_counted tree = leaves_alike (visits tree) ∙ ap (λ ns. length (filter (λ (n : Node). is_leaf_kind n.kind) ns)) (map-visits_from (λ _. []) 1 tree)
+    ∙ length-filter (λ (n : Node). is_leaf_kind n.kind) (prefix tree)
 
 -- the form's leaf at a visit, with a weight
 abbrev pub leaf_at : Forest → Visit → ℤ → Leaf
@@ -76,7 +79,8 @@ last_named sizes (choice ∷ rest) are = of_choice sizes choice rest (All-head (
 
 module _ (tables : Tables) (tree : Forest) (game : IsGameTree tree) where
   leaf_range : (kind : Kind) → is_leaf_kind kind ≡ false → All (SequencesAreInRange tree kind) (leaf_visits tree)
-  leaf_range kind inner = All-filter (λ v. is_leaf_kind v.node.kind) (SequencesAreInRange tree kind) (visits tree) (each_sequence_is_in_range tree game kind inner)
+  leaf_range kind inner = All-filter (λ v. is_leaf_kind v.node.kind) (SequencesAreInRange tree kind) (visits tree)
+      (each_sequence_is_in_range tree game kind inner)
 
   has_choices : (z : ℕ) (d : Visit) (weights : List ℤ) (weight : ℤ) → z < length (leaf_visits tree) →
       LeafHasItsChoices tree (form_of tree weights) (leaf_entry tables (get_or (leaf_visits tree) z d)) (leaf_at tree (get_or (leaf_visits tree) z d) weight)
@@ -103,7 +107,8 @@ module _ (tables : Tables) (tree : Forest) (game : IsGameTree tree) where
       let is_v : get_or all at_v.0 v ≡ v = at_v.2 in
       let is_w : get_or all at_w.0 v ≡ w = get_or_default all at_w.0 v w there_w ∙ at_w.2 in
       ap (λ (x : Visit). own_choices kind x.path) (sym is_v)
-      ∙ choices_from_numbers tree kind (length all) at_v.0 at_w.0 v game personal (λ p q e before below inside. recall p q e before inside) (omega arith) (omega arith) there_v there_w
+      ∙ choices_from_numbers tree kind (length all) at_v.0 at_w.0 v game personal (λ p q e before below inside. recall p q e before inside) (omega arith)
+      (omega arith) there_v there_w
       (ap (sequence_at kind tree) is_v ∙ same ∙ sym (ap (sequence_at kind tree) is_w))
       ∙ ap (λ (x : Visit). own_choices kind x.path) is_w
 
@@ -112,7 +117,8 @@ module _ (tables : Tables) (tree : Forest) (game : IsGameTree tree) where
 
   tells : HasPerfectRecall tree → (y z : ℕ) (d : Visit) (weight other_weight : ℤ) → y < length (leaf_visits tree)
       → z < length (leaf_visits tree) →
-      TellsChoices (leaf_entry tables (get_or (leaf_visits tree) y d)) (leaf_entry tables (get_or (leaf_visits tree) z d)) (leaf_at tree (get_or (leaf_visits tree) y d) weight) (leaf_at tree (get_or (leaf_visits tree) z d) other_weight)
+      TellsChoices (leaf_entry tables (get_or (leaf_visits tree) y d)) (leaf_entry tables (get_or (leaf_visits tree) z d))
+      (leaf_at tree (get_or (leaf_visits tree) y d) weight) (leaf_at tree (get_or (leaf_visits tree) z d) other_weight)
   tells recall y z d weight other_weight here there =
       let v : Visit = get_or (leaf_visits tree) y d in
       let w : Visit = get_or (leaf_visits tree) z d in
@@ -129,7 +135,8 @@ form_has_the_leaf_list tables tree weights game many =
     let none : ℤ = pos 0 in
     let count : length vs ≡ leaf_count (prefix tree) = leaves_counted tree in
     let same : length weights ≡ length vs = many ∙ sym count in
-    let entry_is : (z : ℕ) (entry : LeafEntry) → z < length vs → get_or (leaf_list tables tree) z entry ≡ leaf_entry tables (get_or vs z d) = λ z entry there. get_or-map (leaf_entry tables) vs z d entry there in
+    let entry_is : (z : ℕ) (entry : LeafEntry) → z < length vs → get_or (leaf_list tables tree) z entry
+    ≡ leaf_entry tables (get_or vs z d) = λ z entry there. get_or-map (leaf_entry tables) vs z d entry there in
     let leaf_is : (z : ℕ) (leaf : Leaf) → z < length vs → get_or (leaves_with tree vs weights) z leaf ≡ leaf_at tree (get_or vs z d) (get_or weights z none) =
     λ z leaf there. leaves_with-at tree vs weights z leaf d none same there in
     record {
@@ -139,23 +146,28 @@ form_has_the_leaf_list tables tree weights game many =
       each = λ z entry leaf there.
           let here : z < length vs = omega arith in
           subst (λ e. LeafHasItsChoices tree (form_of tree weights) e (get_or (leaves_with tree vs weights) z leaf)) (sym (entry_is z entry here))
-          (subst (LeafHasItsChoices tree (form_of tree weights) (leaf_entry tables (get_or vs z d))) (sym (leaf_is z leaf here)) (has_choices tables tree game z d weights (get_or weights z none) here));
+          (subst (LeafHasItsChoices tree (form_of tree weights) (leaf_entry tables (get_or vs z d))) (sym (leaf_is z leaf here))
+          (has_choices tables tree game z d weights (get_or weights z none) here));
       pairs = λ recall y z entry leaf here there.
           let in_y : y < length vs = omega arith in
           let in_z : z < length vs = omega arith in
-          pair_by_parts (leaf_entry tables (get_or vs y d)) (get_or (leaf_list tables tree) y entry) (leaf_entry tables (get_or vs z d)) (get_or (leaf_list tables tree) z entry)
-          (leaf_at tree (get_or vs y d) (get_or weights y none)) (get_or (leaves_with tree vs weights) y leaf) (leaf_at tree (get_or vs z d) (get_or weights z none)) (get_or (leaves_with tree vs weights) z leaf)
+          pair_by_parts (leaf_entry tables (get_or vs y d)) (get_or (leaf_list tables tree) y entry) (leaf_entry tables (get_or vs z d))
+          (get_or (leaf_list tables tree) z entry)
+          (leaf_at tree (get_or vs y d) (get_or weights y none)) (get_or (leaves_with tree vs weights) y leaf)
+          (leaf_at tree (get_or vs z d) (get_or weights z none)) (get_or (leaves_with tree vs weights) z leaf)
           (sym (entry_is y entry in_y)) (sym (entry_is z entry in_z)) (sym (leaf_is y leaf in_y)) (sym (leaf_is z leaf in_z))
           (tells tables tree game recall y z d (get_or weights y none) (get_or weights z none) in_y in_z);
     }
   where
     pair_by_parts : (a b c e : LeafEntry) (l m n o : Leaf) → a ≡ b → c ≡ e → l ≡ m → n ≡ o → TellsChoices a c l n
         → TellsChoices b e m o
-    pair_by_parts a b c e l m n o ab ce lm right h = subst (λ x. TellsChoices x e m o) ab (subst (λ x. TellsChoices a x m o) ce (subst (λ x. TellsChoices a c x o) lm (subst (TellsChoices a c l) right h)))
+    pair_by_parts a b c e l m n o ab ce lm right h = subst (λ x. TellsChoices x e m o) ab
+        (subst (λ x. TellsChoices a x m o) ce (subst (λ x. TellsChoices a c x o) lm (subst (TellsChoices a c l) right h)))
 
 sizes_of : (leaves : List Leaf) → mass_of leaves ≡ sum (map unsigned_abs (map (λ (leaf : Leaf). leaf.weight) leaves))
 sizes_of [] = refl
-sizes_of (leaf ∷ rest) = ap (λ n. unsigned_abs leaf.weight + n) (sizes_of rest) ∙ sym (sum_by-cons (λ n. n) (unsigned_abs leaf.weight) (map unsigned_abs (map (λ (z : Leaf). z.weight) rest)))
+sizes_of (leaf ∷ rest) = ap (λ n. unsigned_abs leaf.weight + n) (sizes_of rest)
+    ∙ sym (sum_by-cons (λ n. n) (unsigned_abs leaf.weight) (map unsigned_abs (map (λ (z : Leaf). z.weight) rest)))
 
 mass_of_weights : (tree : Forest) (weights : List ℤ) → length weights ≡ leaf_count (prefix tree)
     → mass_of (form_of tree weights).leaves ≡ sum (map unsigned_abs weights)
@@ -167,7 +179,8 @@ mass_of_weights tree weights many =
 pub form_has_the_mass : FormHasTheMass
 form_has_the_mass = record {
   of_weights = mass_of_weights;
-  of_game = λ tables tree. mass_of_weights tree (weights tables tree) (length-map (all_expected tables tree) _ ∙ length-map (leaf_visits tree) (expected tables) ∙ leaves_counted tree);
+  of_game = λ tables tree. mass_of_weights tree (weights tables tree) (length-map (all_expected tables tree) _ ∙ length-map (leaf_visits tree) (expected tables)
+      ∙ leaves_counted tree);
 }
 
 sizes_map : (kind : Kind) (tree : Forest) (vs : List Visit)

@@ -1,5 +1,6 @@
 -- Each set's first node and the next nodes after it are the nodes of the set.
-use Rattle.std.proofs.Common.{◌≡◌, ℕ, zero, suc, ◌+◌, ◌-◌, ◌<◌, ◌≤◌, true, false, cond, List, [], ◌∷◌, length, get_or, map, refl, ap, sym, subst, ◌∙◌, arith, Some, None, slice_get}
+use Rattle.std.proofs.Common.{◌≡◌, ℕ, zero, suc, ◌+◌, ◌-◌, ◌<◌, ◌≤◌, true, false, cond, List, [], ◌∷◌, length, get_or, map, refl, ap, sym, subst, ◌∙◌, arith}
+use Rattle.std.proofs.Common.{Some, None, slice_get}
 use Rattle.std.specs.Prelude.{All, AllPairs, Option, filter}
 use Rattle.std.specs.List.{enumerate_from}
 use Rattle.std.proofs.lemmas.List.{get_or-map, length-map}
@@ -31,7 +32,8 @@ found_first : (k : ℕ) (x : Node) (vs : List Visit)
 found_first k x [] = refl
 found_first k x (v ∷ rest) =
     elim (is_same_set v.node x) as (λ b. number_found (cond b (Some (record { number = k; visit = v })) (first_of_set (k + 1) x rest))
-    ≡ slice_get (map (λ n. n.0) (cond b ((k, v) ∷ filter (λ n. is_in_set x.kind x.set n.1) (enumerate_from (k + 1) rest)) (filter (λ n. is_in_set x.kind x.set n.1) (enumerate_from (k + 1) rest)))) 0) [
+    ≡ slice_get (map (λ n. n.0) (cond b ((k, v) ∷ filter (λ n. is_in_set x.kind x.set n.1) (enumerate_from (k + 1) rest))
+    (filter (λ n. is_in_set x.kind x.set n.1) (enumerate_from (k + 1) rest)))) 0) [
       | true ↦ refl
       | false ↦ found_first (k + 1) x rest
     ]
@@ -43,7 +45,8 @@ module _ (kind : Kind) (set : ℕ) (personal : is_personal kind ≡ true) where
   numbers_cons : (k : ℕ) (v : Visit) (rest : List Visit)
       → numbers k (v ∷ rest) ≡ cond (is_in_set kind set v) (k ∷ numbers (k + 1) rest) (numbers (k + 1) rest)
   numbers_cons k v rest =
-      elim (is_in_set kind set v) as (λ b. map (λ n. n.0) (cond b ((k, v) ∷ filter (λ n. is_in_set kind set n.1) (enumerate_from (k + 1) rest)) (filter (λ n. is_in_set kind set n.1) (enumerate_from (k + 1) rest)))
+      elim (is_in_set kind set v) as (λ b. map (λ n. n.0) (cond b ((k, v) ∷ filter (λ n. is_in_set kind set n.1) (enumerate_from (k + 1) rest))
+      (filter (λ n. is_in_set kind set n.1) (enumerate_from (k + 1) rest)))
       ≡ cond b (k ∷ numbers (k + 1) rest) (numbers (k + 1) rest)) [
         | true ↦ refl
         | false ↦ refl
@@ -67,7 +70,8 @@ module _ (kind : Kind) (set : ℕ) (personal : is_personal kind ≡ true) where
   rising k (v ∷ rest) =
       subst (AllPairs (λ m n. m < n)) (sym (numbers_cons k v rest))
       (elim (is_in_set kind set v) as (λ b. AllPairs (λ m n. m < n) (cond b (k ∷ numbers (k + 1) rest) (numbers (k + 1) rest))) [
-        | true ↦ AllPairs-cons (λ m n. m < n) k (numbers (k + 1) rest) (λ j d there. let h = not_below (k + 1) rest j d there in omega arith) (rising (k + 1) rest)
+        | true ↦ AllPairs-cons (λ m n. m < n) k (numbers (k + 1) rest) (λ j d there. let h = not_below (k + 1) rest j d there in omega arith)
+            (rising (k + 1) rest)
         | false ↦ rising (k + 1) rest
       ])
 
@@ -99,7 +103,8 @@ module _ (kind : Kind) (set : ℕ) (personal : is_personal kind ≡ true) where
       let h = later j (omega arith) in
       let on : suc (j + 1) ≡ suc j + 1 = omega arith in (
         omega arith,
-        next_later k v rest (get_or (numbers (k + 1) rest) j 0) (slice_get (numbers (k + 1) rest) (j + 1)) h.0 h.1 ∙ ap (λ i. Some (slice_get (k ∷ numbers (k + 1) rest) i)) on,
+        next_later k v rest (get_or (numbers (k + 1) rest) j 0) (slice_get (numbers (k + 1) rest) (j + 1)) h.0 h.1
+            ∙ ap (λ i. Some (slice_get (k ∷ numbers (k + 1) rest) i)) on,
       )
 
   next_at : (k : ℕ) (vs : List Visit) → NextAt k vs (numbers k vs)

@@ -45,7 +45,8 @@ sets_are_exact = record {
 -- the first node of a node's set has the node's own choices before it
 past_of_first : (tree : Forest) → HasPerfectRecall tree → (k : ℕ) (d f : Visit) (number : ℕ) (o : Option Numbered)
     → k < length (visits tree) → is_personal (get_or (visits tree) k d).node.kind ≡ true →
-    f.node.kind ≡ (get_or (visits tree) k d).node.kind → f.node.set ≡ (get_or (visits tree) k d).node.set → HasFirst 1 (get_or (visits tree) k d).node (visits tree) d o →
+    f.node.kind ≡ (get_or (visits tree) k d).node.kind → f.node.set ≡ (get_or (visits tree) k d).node.set
+    → HasFirst 1 (get_or (visits tree) k d).node (visits tree) d o →
     o ≡ Some (record { number = number; visit = f }) → past f ≡ past (get_or (visits tree) k d)
 past_of_first tree recall k d f number None there personal kinds sets found e = cc
 past_of_first tree recall k d f number (Some first) there personal kinds sets found e =
@@ -75,7 +76,8 @@ sets_have_their_nodes tree game recall kind personal none k d there is =
     let held = (sizes_known tree kind game inner).each v.node (Contains-map all v (Contains-get_or all k d there)) is in
     let counts : 1 ≤ v.node.set = held.0 in
     let known : v.node.set ≤ length (set_sizes kind tree) = held.1 in
-    let nodes : length (set_sizes kind tree) ≡ set_count kind (prefix tree) = (sizes_known tree kind game inner).count ∙ ap (set_count kind) (map-visits_from (λ _. []) 1 tree) in
+    let nodes : length (set_sizes kind tree) ≡ set_count kind (prefix tree) = (sizes_known tree kind game inner).count
+    ∙ ap (set_count kind) (map-visits_from (λ _. []) 1 tree) in
     let first = firsts_are_first tree game kind inner place d (omega arith) in
     let f : Visit = get_or firsts place d in
     let here : place < length firsts = omega (arith, length-map firsts (λ w. w.node.children)) in
@@ -85,6 +87,7 @@ sets_have_their_nodes tree game recall kind personal none k d there is =
     let pasts : past f ≡ past v =
     past_of_first tree recall k d f first.first.0 (first_of_set 1 v.node all) there (ap is_personal is ∙ personal) kinds sets (first_found 1 v.node all d)
     (sym (first_of_set_same 1 f.node v.node all kinds sets) ∙ first.first.1) in
-    let own : own_choices kind f.path ≡ own_choices kind v.path = ap (λ h. own_choices h f.path) (sym first.kinds) ∙ pasts ∙ ap (λ h. own_choices h v.path) is in
+    let own : own_choices kind f.path ≡ own_choices kind v.path = ap (λ h. own_choices h f.path) (sym first.kinds) ∙ pasts
+    ∙ ap (λ h. own_choices h v.path) is in
     let size : f.node.children ≡ v.node.children = sym (get_or-map (λ w. w.node.children) firsts place d 0 here) ∙ held.2 in
     get_or-map (set_of_visit kind tree) firsts place d none here ∙ (λ i. record { before = sequence_number (set_sizes kind tree) (own i); actions = size i })

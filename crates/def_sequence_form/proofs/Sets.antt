@@ -22,12 +22,18 @@ set_actions h = h.actions
 
 -- where a set is placed
 placed-at : (first : ℕ) (sets : List InformationSet) (k : ℕ) (d : PlacedSet) (e : InformationSet) → k < length sets →
-    get_or (placed_from first sets) k d ≡ record { first = first + nat_sum_over set_actions (take k sets); before = (get_or sets k e).before; actions = (get_or sets k e).actions }
+    get_or (placed_from first sets) k d ≡ record {
+      first = first + nat_sum_over set_actions (take k sets);
+      before = (get_or sets k e).before;
+      actions = (get_or sets k e).actions;
+    }
 placed-at first [] k d e there = absurd (omega arith)
-placed-at first (h ∷ hs) zero d e there = let same : first ≡ first + 0 = omega arith in ap (λ n. record { first = n; before = h.before; actions = h.actions }) same
+placed-at first (h ∷ hs) zero d e there = let same : first ≡ first + 0 = omega arith in ap (λ n. record { first = n; before = h.before; actions = h.actions })
+    same
 placed-at first (h ∷ hs) (suc k) d e there =
     let far : first + h.actions + nat_sum_over set_actions (take k hs) ≡ first + (h.actions + nat_sum_over set_actions (take k hs)) = omega arith in
-    placed-at (first + h.actions) hs k d e (omega arith) ∙ ap (λ n. record { first = n; before = (get_or hs k e).before; actions = (get_or hs k e).actions }) far
+    placed-at (first + h.actions) hs k d e (omega arith) ∙ ap (λ n. record { first = n; before = (get_or hs k e).before; actions = (get_or hs k e).actions })
+    far
 
 module _ (kind : Kind) (tree : Forest) where
   abbrev pub set_of_visit : Visit → InformationSet
@@ -40,7 +46,8 @@ module _ (kind : Kind) (tree : Forest) where
       → nat_sum_over set_actions (take k (map set_of_visit vs)) ≡ sum (take k (map (λ v. v.node.children) vs))
   sizes_agree zero vs = refl
   sizes_agree (suc k) [] = refl
-  sizes_agree (suc k) (v ∷ vs) = ap (λ n. v.node.children + n) (sizes_agree k vs) ∙ sym (sum_by-cons (λ n. n) v.node.children (take k (map (λ w. w.node.children) vs)))
+  sizes_agree (suc k) (v ∷ vs) = ap (λ n. v.node.children + n) (sizes_agree k vs)
+      ∙ sym (sum_by-cons (λ n. n) v.node.children (take k (map (λ w. w.node.children) vs)))
 
   sizes_total : (vs : List Visit) → nat_sum_over set_actions (map set_of_visit vs) ≡ sum (map (λ v. v.node.children) vs)
   sizes_total [] = refl
@@ -52,7 +59,11 @@ module _ (kind : Kind) (tree : Forest) where
 
   places_agree : (i : ℕ) (d : PlacedSet) → i < length (information_sets kind tree)
       → get_or (placed (information_sets kind tree)) i d
-      ≡ record { first = first_sequence (set_sizes kind tree) (i + 1); before = get_or (sequences_before kind tree) i 0; actions = get_or (set_sizes kind tree) i 0 }
+      ≡ record {
+        first = first_sequence (set_sizes kind tree) (i + 1);
+        before = get_or (sequences_before kind tree) i 0;
+        actions = get_or (set_sizes kind tree) i 0;
+      }
   places_agree i d there =
       let none : Visit = record { path = []; node = record { kind = Leaf; set = 0; outcome = 0; children = 0 } } in
       let sets : List InformationSet = information_sets kind tree in
@@ -62,15 +73,18 @@ module _ (kind : Kind) (tree : Forest) where
       let index : i ≡ i + 1 - 1 = omega arith in
       let first : 1 + nat_sum_over set_actions (take i sets) ≡ first_sequence (set_sizes kind tree) (i + 1) =
       ap (λ n. 1 + n) (sizes_agree i firsts) ∙ ap (λ n. 1 + sum (take n (set_sizes kind tree))) index in
-      let before : (get_or sets i (set_of_visit none)).before ≡ get_or (sequences_before kind tree) i 0 = ap (λ h. h.before) is ∙ sym (get_or-map (sequence_at kind tree) firsts i none 0 here) in
-      let actions : (get_or sets i (set_of_visit none)).actions ≡ get_or (set_sizes kind tree) i 0 = ap (λ h. h.actions) is ∙ sym (get_or-map (λ w. w.node.children) firsts i none 0 here) in
+      let before : (get_or sets i (set_of_visit none)).before ≡ get_or (sequences_before kind tree) i 0 = ap (λ h. h.before) is
+      ∙ sym (get_or-map (sequence_at kind tree) firsts i none 0 here) in
+      let actions : (get_or sets i (set_of_visit none)).actions ≡ get_or (set_sizes kind tree) i 0 = ap (λ h. h.actions) is
+      ∙ sym (get_or-map (λ w. w.node.children) firsts i none 0 here) in
       placed-at 1 sets i d (set_of_visit none) there ∙ (λ j. record { first = first j; before = before j; actions = actions j })
 
 -- the form counts and places a tree's sequences as they are numbered in the tree
 pub form_numbers_as_the_tree : FormNumbersAsTheTree
 form_numbers_as_the_tree tree game kind inner =
     let few = sequences_are_few tree game kind inner in
-    let sets : length (information_sets kind tree) ≡ length (set_sizes kind tree) = length-map (firsts kind tree) (set_of_visit kind tree) ∙ sym (length-map (firsts kind tree) (λ v. v.node.children)) in
+    let sets : length (information_sets kind tree) ≡ length (set_sizes kind tree) = length-map (firsts kind tree) (set_of_visit kind tree)
+    ∙ sym (length-map (firsts kind tree) (λ v. v.node.children)) in
     record {
       count = counts_agree kind tree;
       sets = sets ∙ few.sets;
@@ -85,8 +99,10 @@ pub form_is_in_order : FormIsInOrder
 form_is_in_order tree game kind inner k d there =
     let sizes : List ℕ = set_sizes kind tree in
     let few = sequences_are_few tree game kind inner in
-    let sets : length (information_sets kind tree) ≡ length sizes = length-map (firsts kind tree) (set_of_visit kind tree) ∙ sym (length-map (firsts kind tree) (λ v. v.node.children)) in
-    let befores : length (sequences_before kind tree) ≡ length sizes = length-map (firsts kind tree) (sequence_at kind tree) ∙ sym (length-map (firsts kind tree) (λ v. v.node.children)) in
+    let sets : length (information_sets kind tree) ≡ length sizes = length-map (firsts kind tree) (set_of_visit kind tree)
+    ∙ sym (length-map (firsts kind tree) (λ v. v.node.children)) in
+    let befores : length (sequences_before kind tree) ≡ length sizes = length-map (firsts kind tree) (sequence_at kind tree)
+    ∙ sym (length-map (firsts kind tree) (λ v. v.node.children)) in
     let here : k < length (information_sets kind tree) = omega (arith, length-placed 1 (information_sets kind tree)) in
     subst (λ (h : PlacedSet). (1 ≤ h.actions) × (h.before < h.first)) (sym (places_agree kind tree k d here))
     ((few.actions k 0 (omega arith)).0, sets_in_order tree game kind inner k (omega arith))

@@ -32,14 +32,16 @@ leaf_list tables tree = map (leaf_entry tables) (leaf_visits tree)
 
 -- the sets of a kind, in the order of their first nodes
 abbrev pub information_sets : Kind → Forest → List InformationSet
-information_sets kind tree = map (λ v. record { before = sequence_at kind tree v; actions = v.node.children }) (set_firsts kind 0 (visits tree))
+information_sets kind tree = map (λ v. record { before = sequence_at kind tree v; actions = v.node.children })
+    (set_firsts kind 0 (visits tree))
 
 -- the leaves with their sequences, and with these weights in turn
 abbrev pub leaves_with : Forest → List Visit → List ℤ → List Leaf
 leaves_with tree [] weights = []
 leaves_with tree (v ∷ rest) [] = []
 leaves_with tree (v ∷ rest) (weight ∷ weights) =
-    record { sequence_one = sequence_at One tree v; sequence_two = sequence_at Two tree v; weight = weight } ∷ leaves_with tree rest weights
+    record { sequence_one = sequence_at One tree v; sequence_two = sequence_at Two tree v; weight = weight }
+    ∷ leaves_with tree rest weights
 
 -- the sequence form of a tree with a weight for each leaf
 abbrev pub form_of : Forest → List ℤ → SequenceForm

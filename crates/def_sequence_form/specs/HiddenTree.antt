@@ -14,7 +14,8 @@ use Rattle.def_plan.specs.Hidden.{hidden}
 
 abbrev pub hidden_tree : Forest
 hidden_tree = forest_of (
-    inner_node Chance 1 2 ∷ inner_node One 1 3 ∷ inner_node Two 1 3 ∷ inner_node One 2 2 ∷ inner_node Two 2 2 ∷ leaf_node 1 ∷ leaf_node 2 ∷
+    inner_node Chance 1 2 ∷ inner_node One 1 3 ∷ inner_node Two 1 3 ∷ inner_node One 2 2 ∷ inner_node Two 2 2
+    ∷ leaf_node 1 ∷ leaf_node 2 ∷
     inner_node Two 2 2 ∷ leaf_node 3 ∷ leaf_node 4 ∷ leaf_node 5 ∷ leaf_node 6 ∷
     inner_node Two 1 3 ∷ leaf_node 7 ∷ leaf_node 8 ∷ leaf_node 9 ∷
     inner_node Two 1 3 ∷ leaf_node 10 ∷ leaf_node 11 ∷ leaf_node 12 ∷

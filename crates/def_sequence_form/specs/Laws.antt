@@ -1,6 +1,7 @@
 -- What holds of a tree's sets, its sequence form and its list of leaves.
 -- Each is the contract of a function of this crate.
-use Rattle.std.specs.Prelude.{◌≡◌, ◌↔◌, ℕ, ◌+◌, ◌-◌, ◌<◌, ◌≤◌, true, false, List, [], ◌∷◌, length, map, slice_index, slice_index_or, sum, All, Option, Some, None, Ok, Err, ℤ, unsigned_abs}
+use Rattle.std.specs.Prelude.{◌≡◌, ◌↔◌, ℕ, ◌+◌, ◌-◌, ◌<◌, ◌≤◌, true, false, List, [], ◌∷◌, length, map, slice_index}
+use Rattle.std.specs.Prelude.{slice_index_or, sum, All, Option, Some, None, Ok, Err, ℤ, unsigned_abs}
 use Rattle.def_tree.specs.declared.Kind.{Kind}
 use Rattle.def_tree.specs.declared.Kind.TheVariants.{One, Two}
 use Rattle.def_tree.specs.Tree.{Forest, prefix, node_count, leaf_count, is_leaf_kind}
@@ -31,7 +32,8 @@ pub record SetsAreExact : Type 0 where
 abbrev pub SetsHaveTheirNodes : Type 0
 SetsHaveTheirNodes = (tree : Forest) → IsGameTree tree → HasPerfectRecall tree → (kind : Kind) → is_personal kind ≡ true
     → (none : InformationSet) →
-    All (λ v. v.node.kind ≡ kind → slice_index_or (information_sets kind tree) (v.node.set - 1) none ≡ record { before = sequence_at kind tree v; actions = v.node.children }) (visits tree)
+    All (λ v. v.node.kind ≡ kind → slice_index_or (information_sets kind tree) (v.node.set - 1) none
+    ≡ record { before = sequence_at kind tree v; actions = v.node.children }) (visits tree)
 
 -- the form counts and places a tree's sequences as they are numbered in the tree,
 -- and has no more sets and sequences than the tree has nodes
@@ -40,7 +42,11 @@ pub record NumbersAsTheTree (tree : Forest) (kind : Kind) : Type 0 where
   pub sets : length (information_sets kind tree) ≡ set_count kind (prefix tree)
   pub places : (i : ℕ) (d : PlacedSet) → i < length (information_sets kind tree)
       → slice_index_or (placed (information_sets kind tree)) i d
-      ≡ record { first = first_sequence (set_sizes kind tree) (i + 1); before = slice_index (sequences_before kind tree) i; actions = slice_index (set_sizes kind tree) i }
+      ≡ record {
+        first = first_sequence (set_sizes kind tree) (i + 1);
+        before = slice_index (sequences_before kind tree) i;
+        actions = slice_index (set_sizes kind tree) i;
+      }
   pub actions : All (λ set. (1 ≤ set.actions) × (set.actions ≤ most_actions)) (information_sets kind tree)
   pub few_sets : length (information_sets kind tree) ≤ node_count tree
   pub few_sequences : sequence_count (information_sets kind tree) ≤ node_count tree
@@ -73,7 +79,8 @@ pub record LeavesAreTheList (tables : Tables) (tree : Forest) (weights : List �
   pub entries : length (leaf_list tables tree) ≡ leaf_count (prefix tree)
   pub weights_are : map (λ leaf. leaf.weight) (form_of tree weights).leaves ≡ weights
   pub each : (z : ℕ) (entry : LeafEntry) (leaf : Leaf) → z < leaf_count (prefix tree) →
-      LeafHasItsChoices tree (form_of tree weights) (slice_index_or (leaf_list tables tree) z entry) (slice_index_or (form_of tree weights).leaves z leaf)
+      LeafHasItsChoices tree (form_of tree weights) (slice_index_or (leaf_list tables tree) z entry)
+      (slice_index_or (form_of tree weights).leaves z leaf)
   pub pairs : HasPerfectRecall tree → (y z : ℕ) (entry : LeafEntry) (leaf : Leaf) → y < leaf_count (prefix tree)
       → z < leaf_count (prefix tree) →
       TellsChoices (slice_index_or (leaf_list tables tree) y entry) (slice_index_or (leaf_list tables tree) z entry)
@@ -89,8 +96,8 @@ pub record FormHasTheMass : Type 0 where
       → mass_of (form_of tree weights).leaves ≡ sum (map unsigned_abs weights)
   pub of_game : (tables : Tables) (tree : Forest) → mass_of (form_of_game tables tree).leaves ≡ game_mass tables tree
 
--- what is answered of a player's sets: those of the form, and for each node the number of the sequence that ends with the
--- player's last own choice before it
+-- what is answered of a player's sets: those of the form, and for each node the number of the sequence that ends with
+-- the player's last own choice before it
 pub record TellsEachNode (tree : Forest) (kind : Kind) (known : PlayerSets) : Type 0 where
   pub sets : known.sets ≡ information_sets kind tree
   pub count : length known.at_nodes ≡ node_count tree

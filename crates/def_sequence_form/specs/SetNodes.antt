@@ -1,5 +1,6 @@
 -- The nodes of each set, as its first node and the next nodes list them.
-use Rattle.std.specs.Prelude.{◌≡◌, ℕ, ◌+◌, ◌-◌, ◌<◌, ◌≤◌, ◌&&◌, Bool, false, nat_eq, List, [], ◌∷◌, length, map, filter, slice_get, slice_index, slice_index_or, AllPairs, Option, Some, None}
+use Rattle.std.specs.Prelude.{◌≡◌, ℕ, ◌+◌, ◌-◌, ◌<◌, ◌≤◌, ◌&&◌, Bool, false, nat_eq, List, [], ◌∷◌, length, map, filter}
+use Rattle.std.specs.Prelude.{slice_get, slice_index, slice_index_or, AllPairs, Option, Some, None}
 use Rattle.std.specs.List.{enumerate_from}
 use Rattle.def_tree.specs.declared.Kind.{Kind}
 use Rattle.def_tree.specs.declared.Kind.TheVariants.{Chance, One, Two}
@@ -21,7 +22,8 @@ pub record ListsNodes (numbers first_nodes : List ℕ) (next_nodes : List (Optio
   pub some : 1 ≤ length numbers
   pub rising : AllPairs (λ m n. m < n) numbers
   pub first : slice_get first_nodes (set - 1) ≡ slice_get numbers 0
-  pub next : (j : ℕ) → j < length numbers → slice_get next_nodes (slice_index numbers j - 1) ≡ Some (slice_get numbers (j + 1))
+  pub next : (j : ℕ) → j < length numbers → slice_get next_nodes (slice_index numbers j - 1)
+      ≡ Some (slice_get numbers (j + 1))
 
 -- a player's sets list exactly their nodes, each once and in rising order
 pub record PlayerSetsListNodes (tree : Forest) (kind : Kind) (known : PlayerSets) : Type 0 where
@@ -42,9 +44,12 @@ pub record SetsListTheirNodes : Type 0 where
 abbrev pub scattered_sets : Forest
 scattered_sets = forest_of (
     inner_node Chance 1 3
-    ∷ inner_node One 1 2 ∷ inner_node Two 1 2 ∷ leaf_node 1 ∷ leaf_node 2 ∷ inner_node Two 1 2 ∷ leaf_node 3 ∷ leaf_node 4
-    ∷ inner_node One 2 2 ∷ inner_node Two 1 2 ∷ leaf_node 5 ∷ leaf_node 6 ∷ inner_node Two 2 2 ∷ leaf_node 7 ∷ leaf_node 8
-    ∷ inner_node One 1 2 ∷ inner_node Two 2 2 ∷ leaf_node 9 ∷ leaf_node 10 ∷ inner_node Two 1 2 ∷ leaf_node 11 ∷ leaf_node 12
+    ∷ inner_node One 1 2 ∷ inner_node Two 1 2 ∷ leaf_node 1 ∷ leaf_node 2 ∷ inner_node Two 1 2 ∷ leaf_node 3
+    ∷ leaf_node 4
+    ∷ inner_node One 2 2 ∷ inner_node Two 1 2 ∷ leaf_node 5 ∷ leaf_node 6 ∷ inner_node Two 2 2 ∷ leaf_node 7
+    ∷ leaf_node 8
+    ∷ inner_node One 1 2 ∷ inner_node Two 2 2 ∷ leaf_node 9 ∷ leaf_node 10 ∷ inner_node Two 1 2 ∷ leaf_node 11
+    ∷ leaf_node 12
     ∷ [])
 
 pub record SetNodeRows : Type 0 where

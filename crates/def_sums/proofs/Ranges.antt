@@ -1,5 +1,6 @@
 -- Sums over numbers in a row, `range_with_len first count`.
-use Rattle.std.proofs.Common.{◌≡◌, ℕ, zero, suc, ◌+◌, ◌-◌, ◌≤◌, ◌<◌, Bool, true, false, cond, eqb, List, [], ◌∷◌, ◌++◌, map, length, get_or, slice_index, ℤ, pos, ◌+ℤ◌, All, arith, ap, sym, ◌∙◌, refl, eqb-true, ne_eqb, subst, ⊎_elim, filter}
+use Rattle.std.proofs.Common.{◌≡◌, ℕ, zero, suc, ◌+◌, ◌-◌, ◌≤◌, ◌<◌, Bool, true, false, cond, eqb, List, [], ◌∷◌, ◌++◌, map, length, get_or, slice_index, ℤ}
+use Rattle.std.proofs.Common.{pos, ◌+ℤ◌, All, arith, ap, sym, ◌∙◌, refl, eqb-true, ne_eqb, subst, ⊎_elim, filter}
 use Rattle.std.proofs.lemmas.Bool.{eqb-false}
 use Rattle.std.proofs.lemmas.Bool.Decides.{eqb_tells}
 use Rattle.std.proofs.lemmas.List.{get_or-append-add}
@@ -104,7 +105,8 @@ pub nat_pick : (v k a n : ℕ) → nat_sum_over (λ s. cond (eqb k s) v 0) (rang
 nat_pick v k a zero = omega arith
 nat_pick v k a (suc n) =
     ⊎_elim
-    (λ yes. subst (λ b. cond b v 0 + nat_sum_over (λ s. cond (eqb k s) v 0) (range_with_len (a + 1) n) ≤ v) (sym yes.0) (omega (arith, nat_pick_out v k (a + 1) n (omega (arith, yes.1)))))
+    (λ yes. subst (λ b. cond b v 0 + nat_sum_over (λ s. cond (eqb k s) v 0) (range_with_len (a + 1) n) ≤ v) (sym yes.0)
+    (omega (arith, nat_pick_out v k (a + 1) n (omega (arith, yes.1)))))
     (λ no. subst (λ b. cond b v 0 + nat_sum_over (λ s. cond (eqb k s) v 0) (range_with_len (a + 1) n) ≤ v) (sym no.0) (omega (arith, nat_pick v k (a + 1) n)))
     (eqb_tells k a)
 
@@ -120,7 +122,9 @@ nat_gathered key v a n [] = omega (arith, nat_sum_over-bounded (λ s. 0) 0 (rang
 nat_gathered key v a n (z ∷ zs) =
     omega (
       arith,
-      nat_sum_over-same (λ s. nat_sum_over v (filter (λ z. eqb (key z) s) (z ∷ zs))) (λ s. cond (eqb (key z) s) (v z) 0 + nat_sum_over v (filter (λ z. eqb (key z) s) zs)) (range_with_len a n) (λ k d low. kept_nat v (eqb (key z) (get_or (range_with_len a n) k d)) z (filter (λ z. eqb (key z) (get_or (range_with_len a n) k d)) zs)),
+      nat_sum_over-same (λ s. nat_sum_over v (filter (λ z. eqb (key z) s) (z ∷ zs)))
+          (λ s. cond (eqb (key z) s) (v z) 0 + nat_sum_over v (filter (λ z. eqb (key z) s) zs)) (range_with_len a n)
+          (λ k d low. kept_nat v (eqb (key z) (get_or (range_with_len a n) k d)) z (filter (λ z. eqb (key z) (get_or (range_with_len a n) k d)) zs)),
       nat_sum_over-add (λ s. cond (eqb (key z) s) (v z) 0) (λ s. nat_sum_over v (filter (λ z. eqb (key z) s) zs)) (range_with_len a n),
       nat_pick (v z) (key z) a n,
       nat_gathered key v a n zs,

@@ -1,5 +1,6 @@
 -- Sums over lists of any elements.
-use Rattle.std.proofs.Common.{◌≡◌, ℕ, ◌+◌, ◌*◌, ◌≤◌, Bool, true, false, cond, List, [], ◌∷◌, ◌++◌, map, length, ℤ, pos, ◌+ℤ◌, ◌*ℤ◌, ◌≤ℤ◌, unsigned_abs, All, sum, filter, fold, arith, ap, sym, ◌∙◌, refl}
+use Rattle.std.proofs.Common.{◌≡◌, ℕ, ◌+◌, ◌*◌, ◌≤◌, Bool, true, false, cond, List, [], ◌∷◌, ◌++◌, map, length, ℤ, pos, ◌+ℤ◌, ◌*ℤ◌, ◌≤ℤ◌, unsigned_abs, All}
+use Rattle.std.proofs.Common.{sum, filter, fold, arith, ap, sym, ◌∙◌, refl}
 use Rattle.std.proofs.lemmas.Int.{ints, unsigned_abs-mul}
 use Rattle.std.proofs.lemmas.List.Elements.{All-head, All-tail}
 use Rattle.def_sums.specs.Sum.{sum_over, nat_sum_over}
@@ -52,7 +53,8 @@ pub sum_over-related : {A : Type 0} (R : ℤ → ℤ → Type 0) → R (pos 0) (
     → R (sum_over f xs) (sum_over g xs)
 sum_over-related R none add f g [] h = none
 sum_over-related R none add f g (x ∷ xs) h =
-    add (f x) (g x) (sum_over f xs) (sum_over g xs) (All-head (λ x. R (f x) (g x)) x xs h) (sum_over-related R none add f g xs (All-tail (λ x. R (f x) (g x)) x xs h))
+    add (f x) (g x) (sum_over f xs) (sum_over g xs) (All-head (λ x. R (f x) (g x)) x xs h)
+    (sum_over-related R none add f g xs (All-tail (λ x. R (f x) (g x)) x xs h))
 
 -- where each term is at most another, the sum of the first is at most that of the others
 pub sum_over-mono : {A : Type 0} (f g : A → ℤ) (xs : List A) → All (λ x. f x ≤ℤ g x) xs → sum_over f xs ≤ℤ sum_over g xs

@@ -1,5 +1,6 @@
 -- What holds of sums, of products of signed numbers and of the floor. Each is the contract of a function of this crate.
-use Rattle.std.specs.Prelude.{◌≡◌, ℕ, ◌+◌, ◌*◌, ◌≤◌, List, ◌++◌, length, ℤ, pos, ◌+ℤ◌, ◌*ℤ◌, ◌≤ℤ◌, neg_ℤ, unsigned_abs, All, sum}
+use Rattle.std.specs.Prelude.{◌≡◌, ℕ, ◌+◌, ◌*◌, ◌≤◌, List, ◌++◌, length, ℤ, pos, ◌+ℤ◌, ◌*ℤ◌, ◌≤ℤ◌, neg_ℤ, unsigned_abs}
+use Rattle.std.specs.Prelude.{All, sum}
 use Rattle.std.specs.Int.{int_div_euclid}
 use Rattle.def_sums.specs.Sum.{sum_over, nat_sum_over}
 use Rattle.def_sums.specs.Floor.{IsFloorOf, floor_div}

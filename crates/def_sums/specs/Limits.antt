@@ -1,6 +1,7 @@
 -- The limits of a game and of a run, on which the fixed widths of numbers rest.
 use Rattle.std.specs.Prelude.{ℕ, ◌*◌, ◌^◌}
-use Rattle.def_sums.specs.declared.TheConstants.{LEAST_CARDS, MOST_CARDS, MOST_MASS, MOST_ROOT, MOST_ROUNDS, MOST_SCALE, MOST_SMALL_ROWS, MOST_STRIPES, MOST_WORKERS, PAST_DEALT}
+use Rattle.def_sums.specs.declared.TheConstants.{LEAST_CARDS, MOST_CARDS, MOST_MASS, MOST_ROOT, MOST_ROUNDS, MOST_SCALE}
+use Rattle.def_sums.specs.declared.TheConstants.{MOST_SMALL_ROWS, MOST_STRIPES, MOST_WORKERS, PAST_DEALT}
 
 -- the sizes of all weights of a game together
 abbrev pub most_mass : ℕ

@@ -16,7 +16,8 @@ pub prefix-cut : (n : ℕ) (xs : Forest) → prefix (take_trees n xs) ++ prefix 
 prefix-cut zero xs = refl
 prefix-cut (suc n) bare = refl
 prefix-cut (suc n) (grown node below beside) =
-    ap (λ rest. node ∷ rest) (append_assoc (prefix below) (prefix (take_trees n beside)) (prefix (drop_trees n beside)) ∙ ap (λ rest. prefix below ++ rest) (prefix-cut n beside))
+    ap (λ rest. node ∷ rest) (append_assoc (prefix below) (prefix (take_trees n beside)) (prefix (drop_trees n beside))
+    ∙ ap (λ rest. prefix below ++ rest) (prefix-cut n beside))
 
 -- the trees made of a list of nodes have these nodes in prefix order
 pub prefix-forest_of : (nodes : List Node) → prefix (forest_of nodes) ≡ nodes
@@ -37,11 +38,14 @@ pub forest_of-prefix : (xs : Forest) (rest : List Node) → HasItsChildren xs
 forest_of-prefix bare rest h = refl
 forest_of-prefix (grown node below beside) rest h =
     let behind : forest_of ((prefix below ++ prefix beside) ++ rest) ≡ joined_forests below (joined_forests beside (forest_of rest)) =
-    ap forest_of (append_assoc (prefix below) (prefix beside) rest) ∙ forest_of-prefix below (prefix beside ++ rest) h.1 ∙ ap (joined_forests below) (forest_of-prefix beside rest h.2)
+    ap forest_of (append_assoc (prefix below) (prefix beside) rest) ∙ forest_of-prefix below (prefix beside ++ rest) h.1
+    ∙ ap (joined_forests below) (forest_of-prefix beside rest h.2)
     in let first : take_trees node.children (joined_forests below (joined_forests beside (forest_of rest))) ≡ below =
-    ap (λ n. take_trees n (joined_forests below (joined_forests beside (forest_of rest)))) (sym h.0) ∙ take_trees-joined below (joined_forests beside (forest_of rest))
+    ap (λ n. take_trees n (joined_forests below (joined_forests beside (forest_of rest)))) (sym h.0)
+    ∙ take_trees-joined below (joined_forests beside (forest_of rest))
     in let others : drop_trees node.children (joined_forests below (joined_forests beside (forest_of rest))) ≡ joined_forests beside (forest_of rest) =
-    ap (λ n. drop_trees n (joined_forests below (joined_forests beside (forest_of rest)))) (sym h.0) ∙ drop_trees-joined below (joined_forests beside (forest_of rest))
+    ap (λ n. drop_trees n (joined_forests below (joined_forests beside (forest_of rest)))) (sym h.0)
+    ∙ drop_trees-joined below (joined_forests beside (forest_of rest))
     in λ i. grown node
     ((ap (take_trees node.children) behind ∙ first) i)
     ((ap (drop_trees node.children) behind ∙ others) i)
@@ -60,7 +64,8 @@ tree_count-take_trees (suc n) (grown node below beside) h = ap suc (tree_count-t
 pub tree_count-drop_trees : (n : ℕ) (xs : Forest) → tree_count (drop_trees n xs) ≡ tree_count xs - n
 tree_count-drop_trees zero xs = omega arith
 tree_count-drop_trees (suc n) bare = omega arith
-tree_count-drop_trees (suc n) (grown node below beside) = let e : tree_count (drop_trees n beside) ≡ tree_count beside - n = tree_count-drop_trees n beside in omega arith
+tree_count-drop_trees (suc n) (grown node below beside) = let e : tree_count (drop_trees n beside) ≡ tree_count beside
+    - n = tree_count-drop_trees n beside in omega arith
 
 -- where each node has as many children as it says, so it has in the first n trees
 pub HasItsChildren-take_trees : (n : ℕ) (xs : Forest) → HasItsChildren xs → HasItsChildren (take_trees n xs)

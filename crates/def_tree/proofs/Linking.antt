@@ -1,5 +1,6 @@
 -- The links of nodes say the same as the lists of children.
-use Rattle.std.proofs.Common.{◌≡◌, ◌↔◌, ℕ, zero, suc, ◌+◌, ◌-◌, ◌<◌, ◌≤◌, List, [], ◌∷◌, ◌++◌, length, get_or, refl, ap, sym, subst, ◌∙◌, arith, inl, inr, ◌⊎◌, length-append, Some, None, Option, slice_get}
+use Rattle.std.proofs.Common.{◌≡◌, ◌↔◌, ℕ, zero, suc, ◌+◌, ◌-◌, ◌<◌, ◌≤◌, List, [], ◌∷◌, ◌++◌, length, get_or, refl, ap, sym, subst, ◌∙◌, arith, inl, inr, ◌⊎◌}
+use Rattle.std.proofs.Common.{length-append, Some, None, Option, slice_get}
 use Rattle.std.specs.Prelude.{Contains}
 use Rattle.std.proofs.lemmas.Bool.{cases_lt}
 use Rattle.std.proofs.lemmas.Option.{slice_get_within, slice_get_past, slice_get-get_or, get_or_from_slice_get}
@@ -7,7 +8,8 @@ use Rattle.std.proofs.lemmas.List.{get_or-append-add, get_or-append_right, get_o
 use Rattle.std.proofs.Math.ListN.{get_or-append}
 use Rattle.def_tree.specs.declared.Node.{Node}
 use Rattle.def_tree.specs.Tree.{Forest, bare, grown, prefix, node_count}
-use Rattle.def_tree.specs.Links.{roots_from, children_from, children_of, NodeLinks, links_from, links, no_links, links_of, parent_of, next_sibling_of, ComesAfter, ComesLast, LinksFollowChildren, LinksTellChildren, LinkRows}
+use Rattle.def_tree.specs.Links.{roots_from, children_from, children_of, NodeLinks, links_from, links, no_links, links_of, parent_of, next_sibling_of}
+use Rattle.def_tree.specs.Links.{ComesAfter, ComesLast, LinksFollowChildren, LinksTellChildren, LinkRows}
 
 pub link_rows : LinkRows
 link_rows = record {
@@ -78,7 +80,8 @@ linked_beside above k node below beside c parent siblings i linked =
       low = omega arith;
       found = linked.found;
       there = ap (slice_get (links_from above k (grown node below beside))) place
-          ∙ slice_get-behind (links_from (Some k) (k + 1) below) (links_from above (k + 1 + node_count below) beside) (c - (k + 1 + node_count below)) ∙ linked.there;
+          ∙ slice_get-behind (links_from (Some k) (k + 1) below) (links_from above (k + 1 + node_count below) beside) (c - (k + 1 + node_count below))
+          ∙ linked.there;
       parent_is = linked.parent_is;
       next_is = linked.next_is;
     }
@@ -135,18 +138,24 @@ child_linked above k (grown node below beside) p i c low e = elim (cases_lt k p)
   | inr here ↦
       let same : p ≡ k = omega arith in
       let is : kids k (grown node below beside) p ≡ roots_from (k + 1) below = kids-here k node below beside p same in
-      let linked : IsLinked (Some k) (k + 1) below c (Some k) (roots_from (k + 1) below) i = root_linked (Some k) (k + 1) below i c (ap (λ xs. slice_get xs i) (sym is) ∙ e) in
+      let linked : IsLinked (Some k) (k + 1) below c (Some k) (roots_from (k + 1) below) i = root_linked (Some k) (k + 1) below i c
+      (ap (λ xs. slice_get xs i) (sym is) ∙ e) in
       subst (λ xs. IsLinked above k (grown node below beside) c (Some p) xs i) (sym is)
-      (subst (λ n. IsLinked above k (grown node below beside) c (Some n) (roots_from (k + 1) below) i) (sym same) (linked_below above k node below beside c (Some k) (roots_from (k + 1) below) i linked))
+      (subst (λ n. IsLinked above k (grown node below beside) c (Some n) (roots_from (k + 1) below) i) (sym same)
+      (linked_below above k node below beside c (Some k) (roots_from (k + 1) below) i linked))
   | inl beyond ↦ elim (cases_lt p (k + 1 + node_count below)) [
     | inl within ↦
         let is : kids k (grown node below beside) p ≡ kids (k + 1) below p = kids-below k node below beside p (omega arith) within in
-        let linked : IsLinked (Some k) (k + 1) below c (Some p) (kids (k + 1) below p) i = child_linked (Some k) (k + 1) below p i c (omega arith) (ap (λ xs. slice_get xs i) (sym is) ∙ e) in
-        subst (λ xs. IsLinked above k (grown node below beside) c (Some p) xs i) (sym is) (linked_below above k node below beside c (Some p) (kids (k + 1) below p) i linked)
+        let linked : IsLinked (Some k) (k + 1) below c (Some p) (kids (k + 1) below p) i = child_linked (Some k) (k + 1) below p i c (omega arith)
+        (ap (λ xs. slice_get xs i) (sym is) ∙ e) in
+        subst (λ xs. IsLinked above k (grown node below beside) c (Some p) xs i) (sym is)
+        (linked_below above k node below beside c (Some p) (kids (k + 1) below p) i linked)
     | inr past ↦
         let is : kids k (grown node below beside) p ≡ kids (k + 1 + node_count below) beside p = kids-beside k node below beside p past in
-        let linked : IsLinked above (k + 1 + node_count below) beside c (Some p) (kids (k + 1 + node_count below) beside p) i = child_linked above (k + 1 + node_count below) beside p i c past (ap (λ xs. slice_get xs i) (sym is) ∙ e) in
-        subst (λ xs. IsLinked above k (grown node below beside) c (Some p) xs i) (sym is) (linked_beside above k node below beside c (Some p) (kids (k + 1 + node_count below) beside p) i linked)
+        let linked : IsLinked above (k + 1 + node_count below) beside c (Some p) (kids (k + 1 + node_count below) beside p) i = child_linked above
+        (k + 1 + node_count below) beside p i c past (ap (λ xs. slice_get xs i) (sym is) ∙ e) in
+        subst (λ xs. IsLinked above k (grown node below beside) c (Some p) xs i) (sym is)
+        (linked_beside above k node below beside c (Some p) (kids (k + 1 + node_count below) beside p) i linked)
   ]
 ]
 
@@ -170,11 +179,22 @@ root_or_child k (grown node below beside) c low high =
       | inr here ↦ let same : k ≡ c = omega arith in inl (record { i = 0; at = ap Some same })
       | inl beyond ↦ elim (cases_lt c (k + 1 + node_count below)) [
         | inl within ↦ elim (root_or_child (k + 1) below c (omega arith) within) [
-          | inl root ↦ inr (record { p = k; i = root.i; low = omega arith; at = ap (λ xs. slice_get xs root.i) (kids-here k node below beside k refl) ∙ root.at })
+          | inl root ↦ inr (record {
+            p = k;
+            i = root.i;
+            low = omega arith;
+            at = ap (λ xs. slice_get xs root.i) (kids-here k node below beside k refl)
+                ∙ root.at;
+          })
           | inr child ↦
               let low : k + 1 ≤ child.p = child.low in
               elim (cases_lt child.p (k + 1 + node_count below)) [
-                | inl there ↦ inr (record { p = child.p; i = child.i; low = omega arith; at = ap (λ xs. slice_get xs child.i) (kids-below k node below beside child.p low there) ∙ child.at })
+                | inl there ↦ inr (record {
+                  p = child.p;
+                  i = child.i;
+                  low = omega arith;
+                  at = ap (λ xs. slice_get xs child.i) (kids-below k node below beside child.p low there) ∙ child.at;
+                })
                 | inr out ↦
                     let long : length (children_from (k + 1) below) ≡ node_count below = length-children_from (k + 1) below in
                     let none : kids (k + 1) below child.p ≡ [] = get_or_past (children_from (k + 1) below) (child.p - (k + 1)) [] (omega arith) in
@@ -185,7 +205,13 @@ root_or_child k (grown node below beside) c low high =
           | inl root ↦ inl (record { i = suc root.i; at = root.at })
           | inr child ↦
               let low : k + 1 + node_count below ≤ child.p = child.low in
-              inr (record { p = child.p; i = child.i; low = omega arith; at = ap (λ xs. slice_get xs child.i) (kids-beside k node below beside child.p low) ∙ child.at })
+              inr (record {
+                p = child.p;
+                i = child.i;
+                low = omega arith;
+                at = ap (λ xs. slice_get xs child.i) (kids-beside k node below beside child.p low)
+                    ∙ child.at;
+              })
         ]
       ]
     ]
@@ -201,10 +227,12 @@ first_child-head above k (grown node below beside) (suc j) =
     let wide : length (children_from (k + 1) below) ≡ node_count below = length-children_from (k + 1) below in
     elim (cases_lt j (node_count below)) [
       | inl within ↦
-          ap (λ l. l.first_child) (get_or-append (links_from (Some k) (k + 1) below) (links_from above after beside) no_links j (omega arith)) ∙ first_child-head (Some k) (k + 1) below j
+          ap (λ l. l.first_child) (get_or-append (links_from (Some k) (k + 1) below) (links_from above after beside) no_links j (omega arith))
+          ∙ first_child-head (Some k) (k + 1) below j
           ∙ ap (λ xs. slice_get xs 0) (sym (get_or-append (children_from (k + 1) below) (children_from after beside) [] j (omega arith)))
       | inr past ↦
-          ap (λ l. l.first_child) (get_or-append_right (links_from (Some k) (k + 1) below) (links_from above after beside) (node_count below) j no_links long past)
+          ap (λ l. l.first_child) (get_or-append_right (links_from (Some k) (k + 1) below) (links_from above after beside) (node_count below) j no_links long
+          past)
           ∙ first_child-head above after beside (j - node_count below)
           ∙ ap (λ xs. slice_get xs 0) (sym (get_or-append_right (children_from (k + 1) below) (children_from after beside) (node_count below) j [] wide past))
     ]
@@ -261,8 +289,14 @@ module _ (node : Node) (below : Forest) where
           let told : TellsChild k child.p child.i = tells_child k child.p child.i child.low child.at in
           let some : Some child.p ≡ Some p = sym told.parent ∙ e in
           let same : child.p ≡ p = cc in
-          subst (λ n. (1 ≤ n) × Contains (children_of whole n) k) same
-          (child.low, (child.i, slice_get_within (children_of whole child.p) child.i k child.at, get_or_from_slice_get (children_of whole child.p) child.i k k child.at))
+          subst (λ n. (1 ≤ n) × Contains (children_of whole n) k) same (
+            child.low,
+            (
+              child.i,
+              slice_get_within (children_of whole child.p) child.i k child.at,
+              get_or_from_slice_get (children_of whole child.p) child.i k k child.at,
+            ),
+          )
     ],
     λ h. (tells_child k p h.1.0 h.0 (slice_get-get_or (children_of whole p) h.1.0 k h.1.1 ∙ ap Some h.1.2)).parent,
   )
@@ -296,7 +330,8 @@ module _ (node : Node) (below : Forest) where
   )
 
   last_alone : (k p : ℕ) → ComesLast (children_of whole p) k → next_sibling_of whole k ≡ None
-  last_alone k p last = tells_next k p (length (children_of whole p) - 1) last ∙ slice_get_past (children_of whole p) (suc (length (children_of whole p) - 1)) (omega arith)
+  last_alone k p last = tells_next k p (length (children_of whole p) - 1) last
+      ∙ slice_get_past (children_of whole p) (suc (length (children_of whole p) - 1)) (omega arith)
 
   links_follow_children : LinksFollowChildren whole
   links_follow_children = record {

@@ -23,7 +23,8 @@ trees_of n (node ∷ rest) h e =
     let some : 0 < n = h.0 in
     let count : tree_count (forest_of rest) ≡ n + node.children - 1 = behind.0 in
     let below : tree_count (take_trees node.children (forest_of rest)) ≡ node.children = tree_count-take_trees node.children (forest_of rest) (omega arith) in
-    let beside : tree_count (drop_trees node.children (forest_of rest)) ≡ tree_count (forest_of rest) - node.children = tree_count-drop_trees node.children (forest_of rest) in
+    let beside : tree_count (drop_trees node.children (forest_of rest)) ≡ tree_count (forest_of rest)
+    - node.children = tree_count-drop_trees node.children (forest_of rest) in
     (omega arith, (below, HasItsChildren-take_trees node.children (forest_of rest) behind.1, HasItsChildren-drop_trees node.children (forest_of rest) behind.1))
 
 -- the nodes of some trees, put before others, want as many more as there are trees
@@ -33,7 +34,8 @@ wanted-prefix bare n rest h = ap (λ m. wanted m rest) (omega arith)
 wanted-prefix (grown node below beside) n rest h =
     let has : tree_count below ≡ node.children = h.0 in
     let left : suc (tree_count beside) + n + node.children - 1 ≡ tree_count below + (tree_count beside + n) = omega arith in
-    ap (λ m. wanted m ((prefix below ++ prefix beside) ++ rest)) left ∙ ap (wanted (tree_count below + (tree_count beside + n))) (append_assoc (prefix below) (prefix beside) rest)
+    ap (λ m. wanted m ((prefix below ++ prefix beside) ++ rest)) left ∙ ap (wanted (tree_count below + (tree_count beside + n)))
+    (append_assoc (prefix below) (prefix beside) rest)
     ∙ wanted-prefix below (tree_count beside + n) (prefix beside ++ rest) h.1 ∙ wanted-prefix beside n rest h.2
 
 pub Begins-prefix : (xs : Forest) (n : ℕ) (rest : List Node) → HasItsChildren xs → Begins n rest
@@ -50,7 +52,8 @@ Begins-prefix (grown node below beside) n rest h b =
 
 -- the nodes of one whole tree make one tree, with as many children at each node as it says
 pub tree_of_whole : (nodes : List Node) → IsWhole nodes → IsTree (forest_of nodes)
-tree_of_whole nodes h = let t : (tree_count (forest_of nodes) ≡ 1) × HasItsChildren (forest_of nodes) = trees_of 1 nodes h.begins h.ends in record { one = t.0; children = t.1 }
+tree_of_whole nodes h = let t : (tree_count (forest_of nodes) ≡ 1) × HasItsChildren (forest_of nodes) = trees_of 1 nodes h.begins
+    h.ends in record { one = t.0; children = t.1 }
 
 -- where nodes make one tree, they are those of one whole tree
 pub whole_of_tree : (nodes : List Node) → IsTree (forest_of nodes) → IsWhole nodes

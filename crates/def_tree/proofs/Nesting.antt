@@ -1,5 +1,6 @@
 -- A walk keeps to the nesting of the nodes, and leaves each node once.
-use Rattle.std.proofs.Common.{◌≡◌, ℕ, suc, ◌+◌, ◌-◌, ◌<◌, ◌≤◌, cond, List, [], ◌∷◌, ◌++◌, length, refl, ap, sym, subst, ◌∙◌, arith, inl, inr, ◌⊎◌, ◌≢◌, length-append}
+use Rattle.std.proofs.Common.{◌≡◌, ℕ, suc, ◌+◌, ◌-◌, ◌<◌, ◌≤◌, cond, List, [], ◌∷◌, ◌++◌, length, refl, ap, sym, subst, ◌∙◌, arith, inl, inr, ◌⊎◌, ◌≢◌}
+use Rattle.std.proofs.Common.{length-append}
 use Rattle.std.specs.Prelude.{filter, nat_eq}
 use Rattle.std.proofs.lemmas.Bool.{cases_lt, eq-eqb, ne_eqb}
 use Rattle.std.proofs.lemmas.List.Elements.{filter-append}
@@ -12,8 +13,11 @@ KeepsNesting-append : (opened between end : List OpenNode) (xs ys : List Event) 
     → KeepsNesting between ys end → KeepsNesting opened (xs ++ ys) end
 KeepsNesting-append opened between end [] ys h k = subst (λ o. KeepsNesting o ys end) (sym h) k
 KeepsNesting-append [] between end (Enter n node ∷ xs) ys h k = absurd h
-KeepsNesting-append (top ∷ outer) between end (Enter n node ∷ xs) ys h k =
-    (h.0, KeepsNesting-append (record { number = n; to_come = node.children } ∷ (record { number = top.number; to_come = top.to_come - 1 } ∷ outer)) between end xs ys h.1 k)
+KeepsNesting-append (top ∷ outer) between end (Enter n node ∷ xs) ys h k = (
+  h.0,
+  KeepsNesting-append (record { number = n; to_come = node.children } ∷ (record { number = top.number; to_come = top.to_come - 1 } ∷ outer)) between end
+      xs ys h.1 k,
+)
 KeepsNesting-append [] between end (Leave n ∷ xs) ys h k = absurd h
 KeepsNesting-append (top ∷ outer) between end (Leave n ∷ xs) ys h k = (h.0, h.1, KeepsNesting-append outer between end xs ys h.2 k)
 
@@ -29,13 +33,20 @@ nests k (grown node below beside) top outer has enough =
     let this : OpenNode = record { number = k; to_come = node.children } in
     let next : OpenNode = record { number = top.number; to_come = top.to_come - 1 } in
     let count : tree_count below ≡ node.children = has.0 in
-    let inside : KeepsNesting (this ∷ (next ∷ outer)) (events_from (k + 1) below) (fewer this (tree_count below) (next ∷ outer)) = nests (k + 1) below this (next ∷ outer) has.1 (omega arith) in
-    let later : KeepsNesting (next ∷ outer) (events_from (k + 1 + node_count below) beside) (fewer next (tree_count beside) outer) = nests (k + 1 + node_count below) beside next outer has.2 (omega arith) in
+    let inside : KeepsNesting (this ∷ (next ∷ outer)) (events_from (k + 1) below) (fewer this (tree_count below) (next ∷ outer)) = nests (k + 1) below this
+    (next ∷ outer) has.1 (omega arith) in
+    let later : KeepsNesting (next ∷ outer) (events_from (k + 1 + node_count below) beside) (fewer next (tree_count beside) outer) = nests
+    (k + 1 + node_count below) beside next outer has.2 (omega arith) in
     let rest : top.to_come - 1 - tree_count beside ≡ top.to_come - suc (tree_count beside) = omega arith in (
       omega arith,
-      KeepsNesting-append (this ∷ (next ∷ outer)) (fewer this (tree_count below) (next ∷ outer)) (fewer top (suc (tree_count beside)) outer) (events_from (k + 1) below)
-          (Leave k ∷ events_from (k + 1 + node_count below) beside) inside
-          (refl, omega arith, subst (λ n. KeepsNesting (next ∷ outer) (events_from (k + 1 + node_count below) beside) (record { number = top.number; to_come = n } ∷ outer)) rest later),
+      KeepsNesting-append (this ∷ (next ∷ outer)) (fewer this (tree_count below) (next ∷ outer)) (fewer top (suc (tree_count beside)) outer)
+          (events_from (k + 1) below)
+          (Leave k ∷ events_from (k + 1 + node_count below) beside) inside (
+            refl,
+            omega arith,
+            subst (λ n. KeepsNesting (next ∷ outer) (events_from (k + 1 + node_count below) beside)
+                (record { number = top.number; to_come = n } ∷ outer)) rest later,
+          ),
     )
 
 -- a walk leaves a node after its last child, with all below it, and before it enters any other node
@@ -77,9 +88,11 @@ none_left n k (grown node below beside) out =
     let many : nodes_in (grown node below beside) ≡ 1 + nodes_in below + nodes_in beside = nodes_in-grown node below beside in
     let other : k ≢ n = elim out [ inl low ↦ λ e. absurd (omega arith) | inr high ↦ λ e. absurd (omega arith) ] in
     let inside : (n < k + 1) ⊎ (k + 1 + nodes_in below ≤ n) = elim out [ inl low ↦ inl (omega arith) | inr high ↦ inr (omega arith) ] in
-    let behind : (n < k + 1 + nodes_in below) ⊎ (k + 1 + nodes_in below + nodes_in beside ≤ n) = elim out [ inl low ↦ inl (omega arith) | inr high ↦ inr (omega arith) ] in
+    let behind : (n < k + 1 + nodes_in below) ⊎ (k + 1 + nodes_in below + nodes_in beside ≤ n) = elim out
+    [ inl low ↦ inl (omega arith) | inr high ↦ inr (omega arith) ] in
     as_left-append n (events_from (k + 1) below) (Leave k ∷ events_from (k + 1 + nodes_in below) beside)
-    ∙ (λ i. none_left n (k + 1) below inside i ++ (left_other n k (events_from (k + 1 + nodes_in below) beside) other ∙ none_left n (k + 1 + nodes_in below) beside behind) i)
+    ∙ (λ i. none_left n (k + 1) below inside i ++ (left_other n k (events_from (k + 1 + nodes_in below) beside) other
+    ∙ none_left n (k + 1 + nodes_in below) beside behind) i)
 
 left_once : (n k : ℕ) (trees : Forest) → k ≤ n → n < k + nodes_in trees → as_left n (events_from k trees) ≡ n ∷ []
 left_once n k bare low high = absurd (omega arith)
@@ -95,10 +108,12 @@ left_once n k (grown node below beside) low high =
                 left_once n (k + 1) below (omega arith) (omega arith) i
                 ++ (left_other n k rest (λ e. absurd (omega arith)) ∙ none_left n later beside (inl (omega arith))) i
             | inr past ↦ λ i.
-                none_left n (k + 1) below (inr (omega arith)) i ++ (left_other n k rest (λ e. absurd (omega arith)) ∙ left_once n later beside past (omega arith)) i
+                none_left n (k + 1) below (inr (omega arith)) i ++ (left_other n k rest (λ e. absurd (omega arith))
+                ∙ left_once n later beside past (omega arith)) i
           ]
       | inr not_beyond ↦ λ i.
-          none_left n (k + 1) below (inl (omega arith)) i ++ (left_here n k rest (omega arith) ∙ ap (λ ks. n ∷ ks) (none_left n later beside (inl (omega arith)))) i
+          none_left n (k + 1) below (inl (omega arith)) i ++ (left_here n k rest (omega arith)
+          ∙ ap (λ ks. n ∷ ks) (none_left n later beside (inl (omega arith)))) i
     ]
 
 -- a walk leaves each node once

@@ -19,7 +19,8 @@ appears_before nodes zero d counts short i low high = absurd (omega arith)
 appears_before nodes (suc n) d counts short i low high =
     let there : n < length nodes = omega arith in
     let node : Node = get_or nodes n d in
-    let more : outcome_count (take (suc n) nodes) ≡ max node.outcome (outcome_count (take n nodes)) = ap outcome_count (take-suc nodes n d there) ∙ outcome_count-push (take n nodes) node in
+    let more : outcome_count (take (suc n) nodes) ≡ max node.outcome (outcome_count (take n nodes)) = ap outcome_count (take-suc nodes n d there)
+    ∙ outcome_count-push (take n nodes) node in
     let next : node.outcome ≤ outcome_count (take n nodes) + 1 = counts n d there in
     elim (cases_lt (outcome_count (take n nodes)) i) [
       | inl beyond ↦ (node, (Contains-get_or nodes n d there, omega arith))
@@ -29,4 +30,5 @@ appears_before nodes (suc n) d counts short i low high =
 -- where each node's outcome came before or is the next, each number is that of a node's outcome
 pub each_outcome_appears : EachOutcomeAppears
 each_outcome_appears nodes counts i low high =
-    appears_before nodes (length nodes) (record { kind = Leaf; set = 0; outcome = 0; children = 0 }) counts (omega arith) i low (subst (λ xs. i ≤ outcome_count xs) (sym (take-length nodes)) high)
+    appears_before nodes (length nodes) (record { kind = Leaf; set = 0; outcome = 0; children = 0 }) counts (omega arith) i low
+    (subst (λ xs. i ≤ outcome_count xs) (sym (take-length nodes)) high)

@@ -12,7 +12,13 @@ agree : (before : Node) (node : Node) → AgreeOnSize before node
 agree before node is = All-cons (λ earlier. AgreeOnSize earlier node) before [] is (All-nil (λ earlier. AgreeOnSize earlier node))
 
 first_joins : (n : ℕ) → 1 ≤ n → n ≤ 1024 → JoinsSet [] (inner_node Chance 1 n)
-first_joins n some limit = record { counts = omega arith; next = omega arith; some = some; limit = limit; agrees = All-nil (λ earlier. AgreeOnSize earlier (inner_node Chance 1 n)) }
+first_joins n some limit = record {
+  counts = omega arith;
+  next = omega arith;
+  some = some;
+  limit = limit;
+  agrees = All-nil (λ earlier. AgreeOnSize earlier (inner_node Chance 1 n));
+}
 
 -- worked rows: which nodes can come first, which after one node, and which never
 pub rule_rows : RuleRows
@@ -23,11 +29,29 @@ rule_rows = record {
   same_set = λ n. (
     λ fits. sym (All-head (λ earlier. AgreeOnSize earlier (inner_node One 1 n)) (inner_node One 1 2) [] fits.agrees refl refl),
     λ e. subst (λ m. JoinsSet (inner_node One 1 2 ∷ []) (inner_node One 1 m)) (sym e)
-        (record { counts = omega arith; next = omega arith; some = omega arith; limit = omega arith; agrees = agree (inner_node One 1 2) (inner_node One 1 2) (λ kinds sets. refl) }),
+        (record {
+          counts = omega arith;
+          next = omega arith;
+          some = omega arith;
+          limit = omega arith;
+          agrees = agree (inner_node One 1 2) (inner_node One 1 2) (λ kinds sets. refl);
+        }),
   );
-  next_set = record { counts = omega arith; next = omega arith; some = omega arith; limit = omega arith; agrees = agree (inner_node One 1 2) (inner_node One 2 3) (λ kinds sets. absurd (omega (arith, sets))) };
+  next_set = record {
+    counts = omega arith;
+    next = omega arith;
+    some = omega arith;
+    limit = omega arith;
+    agrees = agree (inner_node One 1 2) (inner_node One 2 3) (λ kinds sets. absurd (omega (arith, sets)));
+  };
   set_left_out = λ fits. let h : 3 ≤ 1 + 1 = fits.next in absurd (omega arith);
-  other_kind = record { counts = omega arith; next = omega arith; some = omega arith; limit = omega arith; agrees = agree (inner_node One 1 2) (inner_node Two 1 3) (λ kinds sets. cc kinds) };
+  other_kind = record {
+    counts = omega arith;
+    next = omega arith;
+    some = omega arith;
+    limit = omega arith;
+    agrees = agree (inner_node One 1 2) (inner_node Two 1 3) (λ kinds sets. cc kinds);
+  };
   other_kinds_next = λ fits. let h : 2 ≤ 0 + 1 = fits.next in absurd (omega arith);
   leaf = λ set children. (λ fits. (fits.set, fits.children), λ h. record { set = h.0; children = h.1 });
   nodes = λ tree is rules. (λ game. game.limit, λ few. record { tree = is; rules = rules; limit = few });

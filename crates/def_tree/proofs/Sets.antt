@@ -1,5 +1,6 @@
 -- The rules of sets, with one node more.
-use Rattle.std.proofs.Common.{◌≡◌, ℕ, suc, zero, ◌+◌, ◌<◌, ◌≤◌, max, Bool, true, false, cond, List, [], ◌∷◌, ◌++◌, length, get_or, take, refl, ap, sym, subst, ◌∙◌, arith, inl, inr, length-append}
+use Rattle.std.proofs.Common.{◌≡◌, ℕ, suc, zero, ◌+◌, ◌<◌, ◌≤◌, max, Bool, true, false, cond, List, [], ◌∷◌, ◌++◌, length, get_or, take, refl, ap, sym, subst}
+use Rattle.std.proofs.Common.{◌∙◌, arith, inl, inr, length-append}
 use Rattle.std.specs.List.{Contains}
 use Rattle.std.proofs.lemmas.Bool.{cases_lt}
 use Rattle.std.proofs.lemmas.List.{take-append-le}
@@ -105,21 +106,26 @@ appears_before kind nodes (suc n) d keep short i low high =
     let node : Node = get_or nodes n d in
     let cut : take (suc n) nodes ≡ take n nodes ++ node ∷ [] = take-suc nodes n d there in
     let fits : Fits (take n nodes) node = keep n d there in
-    elim (is_same_kind kind node.kind) as (λ b. is_same_kind kind node.kind ≡ b → (found : Node) × (Contains nodes found × ((found.kind ≡ kind) × (found.set ≡ i)))) [
+    elim (is_same_kind kind node.kind) as (λ b. is_same_kind kind node.kind ≡ b → (found : Node)
+    × (Contains nodes found × ((found.kind ≡ kind) × (found.set ≡ i)))) [
       | true ↦ λ same.
           let is : node.kind ≡ kind = is_same_kind-true kind node.kind same in
-          let count : set_count kind (take (suc n) nodes) ≡ max node.set (set_count kind (take n nodes)) = ap (set_count kind) cut ∙ set_count-push_same kind (take n nodes) node same in
-          let next : node.set ≤ set_count kind (take n nodes) + 1 = subst (λ k. node.set ≤ set_count k (take n nodes) + 1) is (set-le-next (take n nodes) node fits) in
+          let count : set_count kind (take (suc n) nodes) ≡ max node.set (set_count kind (take n nodes)) = ap (set_count kind) cut
+          ∙ set_count-push_same kind (take n nodes) node same in
+          let next : node.set ≤ set_count kind (take n nodes) + 1 = subst (λ k. node.set ≤ set_count k (take n nodes) + 1) is
+          (set-le-next (take n nodes) node fits) in
           elim (cases_lt (set_count kind (take n nodes)) i) [
             | inl beyond ↦ (node, (Contains-get_or nodes n d there, (is, omega arith)))
             | inr within ↦ appears_before kind nodes n d keep (omega arith) i low within
           ]
       | false ↦ λ other.
-          let count : set_count kind (take (suc n) nodes) ≡ set_count kind (take n nodes) = ap (set_count kind) cut ∙ set_count-push_other kind (take n nodes) node other in
+          let count : set_count kind (take (suc n) nodes) ≡ set_count kind (take n nodes) = ap (set_count kind) cut
+          ∙ set_count-push_other kind (take n nodes) node other in
           appears_before kind nodes n d keep (omega arith) i low (omega arith)
     ] refl
 
 -- by the rules, each number of a kind's sets is that of a node
 pub each_set_appears : EachSetAppears
 each_set_appears nodes keep kind i low high =
-    appears_before kind nodes (length nodes) (record { kind = Leaf; set = 0; outcome = 0; children = 0 }) keep (omega arith) i low (subst (λ xs. i ≤ set_count kind xs) (sym (take-length nodes)) high)
+    appears_before kind nodes (length nodes) (record { kind = Leaf; set = 0; outcome = 0; children = 0 }) keep (omega arith) i low
+    (subst (λ xs. i ≤ set_count kind xs) (sym (take-length nodes)) high)

@@ -31,7 +31,8 @@ kind_number-injective x y e = sym (numbered_kind-kind_number x) ∙ ap numbered_
 abbrev stored : Forest → Gv
 stored bare = gnil
 stored (grown node below beside) =
-    gcons (gcons (gcons (gnum (kind_number node.kind)) (gnum node.set)) (gcons (gnum node.outcome) (gnum node.children))) (gcons (stored below) (stored beside))
+    gcons (gcons (gcons (gnum (kind_number node.kind)) (gnum node.set))
+    (gcons (gnum node.outcome) (gnum node.children))) (gcons (stored below) (stored beside))
 
 pub stored-injective : (x y : Forest) → stored x ≡ stored y → x ≡ y
 stored-injective bare bare e = refl

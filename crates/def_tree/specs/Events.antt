@@ -55,7 +55,8 @@ abbrev pub KeepsNesting : List OpenNode → List Event → List OpenNode → Typ
 KeepsNesting opened [] end = opened ≡ end
 KeepsNesting [] (Enter k node ∷ rest) end = ⊥
 KeepsNesting (top ∷ outer) (Enter k node ∷ rest) end =
-    (1 ≤ top.to_come) × KeepsNesting (record { number = k; to_come = node.children } ∷ (record { number = top.number; to_come = top.to_come - 1 } ∷ outer)) rest end
+    (1 ≤ top.to_come) × KeepsNesting (record { number = k; to_come = node.children }
+    ∷ (record { number = top.number; to_come = top.to_come - 1 } ∷ outer)) rest end
 KeepsNesting [] (Leave k ∷ rest) end = ⊥
 KeepsNesting (top ∷ outer) (Leave k ∷ rest) end = (top.number ≡ k) × (top.to_come ≡ 0) × KeepsNesting outer rest end
 

@@ -5,7 +5,8 @@
 --     parent_of t k, first_child_of t k, next_sibling_of t k     the links of node k
 --     LinksTellChildren               links say the same as the lists of children
 --     LinkRows                        the links of small trees
-use Rattle.std.specs.Prelude.{◌≡◌, ◌↔◌, ℕ, ◌+◌, ◌-◌, ◌≤◌, Option, Some, None, List, [], ◌∷◌, ◌++◌, length, map, slice_get, slice_index_or, Contains}
+use Rattle.std.specs.Prelude.{◌≡◌, ◌↔◌, ℕ, ◌+◌, ◌-◌, ◌≤◌, Option, Some, None, List, [], ◌∷◌, ◌++◌, length, map}
+use Rattle.std.specs.Prelude.{slice_get, slice_index_or, Contains}
 use Rattle.def_tree.specs.declared.Kind.TheVariants.{Chance, One, Two}
 use Rattle.def_tree.specs.Tree.{Forest, bare, grown, forest_of, node_count, IsTree}
 use Rattle.def_tree.specs.Rules.{inner_node, leaf_node, matching_pennies}
@@ -39,7 +40,11 @@ first numbers = slice_get numbers 0
 abbrev pub links_from : Option ℕ → ℕ → Forest → List NodeLinks
 links_from parent k bare = []
 links_from parent k (grown _ below beside) =
-    record { parent = parent; first_child = first (roots_from (k + 1) below); next_sibling = first (roots_from (k + 1 + node_count below) beside) }
+    record {
+      parent = parent;
+      first_child = first (roots_from (k + 1) below);
+      next_sibling = first (roots_from (k + 1 + node_count below) beside);
+    }
     ∷ (links_from (Some k) (k + 1) below ++ links_from parent (k + 1 + node_count below) beside)
 
 abbrev pub links : Forest → List NodeLinks
@@ -69,7 +74,8 @@ abbrev pub ComesLast : List ℕ → ℕ → Type 0
 ComesLast numbers c = slice_get numbers (length numbers - 1) ≡ Some c
 
 -- a node's first child is the head of its children; its parent is the node whose child it is, which each node but the
--- root has; its next sibling comes right after it among some node's children, so that a last child and the root have none
+-- root has; its next sibling comes right after it among some node's children, so that a last child and the root have
+-- none
 pub record LinksFollowChildren (tree : Forest) : Type 0 where
   pub each : length (links tree) ≡ node_count tree
   pub first_child : (k : ℕ) → first_child_of tree k ≡ first (children_of tree k)
@@ -93,11 +99,15 @@ chain = forest_of (inner_node One 1 1 ∷ inner_node Two 1 1 ∷ inner_node Chan
 
 -- leaves at every depth
 abbrev pub several_depths : Forest
-several_depths = forest_of (inner_node Chance 1 3 ∷ leaf_node 1 ∷ inner_node One 1 2 ∷ leaf_node 2 ∷ inner_node Two 1 2 ∷ leaf_node 3 ∷ leaf_node 4 ∷ inner_node Two 1 2 ∷ leaf_node 5 ∷ inner_node One 2 2 ∷ leaf_node 6 ∷ leaf_node 7 ∷ [])
+several_depths = forest_of (inner_node Chance 1 3 ∷ leaf_node 1 ∷ inner_node One 1 2 ∷ leaf_node 2 ∷ inner_node Two 1 2
+    ∷ leaf_node 3 ∷ leaf_node 4 ∷ inner_node Two 1 2 ∷ leaf_node 5 ∷ inner_node One 2 2 ∷ leaf_node 6 ∷ leaf_node 7
+    ∷ [])
 
 -- chance moves within chance moves
 abbrev pub nested_chance : Forest
-nested_chance = forest_of (inner_node Chance 1 2 ∷ inner_node Chance 2 3 ∷ leaf_node 1 ∷ inner_node Chance 3 2 ∷ leaf_node 2 ∷ leaf_node 3 ∷ leaf_node 4 ∷ inner_node One 1 2 ∷ leaf_node 5 ∷ inner_node Chance 4 3 ∷ leaf_node 6 ∷ leaf_node 7 ∷ leaf_node 8 ∷ [])
+nested_chance = forest_of (inner_node Chance 1 2 ∷ inner_node Chance 2 3 ∷ leaf_node 1 ∷ inner_node Chance 3 2
+    ∷ leaf_node 2 ∷ leaf_node 3 ∷ leaf_node 4 ∷ inner_node One 1 2 ∷ leaf_node 5 ∷ inner_node Chance 4 3 ∷ leaf_node 6
+    ∷ leaf_node 7 ∷ leaf_node 8 ∷ [])
 
 -- each node's parent, first child and next sibling
 pub record HasLinks (tree : Forest) (parents first_children next_siblings : List (Option ℕ)) : Type 0 where
@@ -107,12 +117,16 @@ pub record HasLinks (tree : Forest) (parents first_children next_siblings : List
 
 pub record LinkRows : Type 0 where
   pub leaf : HasLinks one_leaf (None ∷ []) (None ∷ []) (None ∷ [])
-  pub chain : HasLinks chain (None ∷ Some 1 ∷ Some 2 ∷ Some 3 ∷ []) (Some 2 ∷ Some 3 ∷ Some 4 ∷ None ∷ []) (None ∷ None ∷ None ∷ None ∷ [])
+  pub chain : HasLinks chain (None ∷ Some 1 ∷ Some 2 ∷ Some 3 ∷ []) (Some 2 ∷ Some 3 ∷ Some 4 ∷ None ∷ [])
+      (None ∷ None ∷ None ∷ None ∷ [])
   pub pennies : HasLinks matching_pennies (None ∷ Some 1 ∷ Some 2 ∷ Some 2 ∷ Some 1 ∷ Some 5 ∷ Some 5 ∷ [])
-      (Some 2 ∷ Some 3 ∷ None ∷ None ∷ Some 6 ∷ None ∷ None ∷ []) (None ∷ Some 5 ∷ Some 4 ∷ None ∷ None ∷ Some 7 ∷ None ∷ [])
-  pub several_depths : HasLinks several_depths (None ∷ Some 1 ∷ Some 1 ∷ Some 3 ∷ Some 3 ∷ Some 5 ∷ Some 5 ∷ Some 1 ∷ Some 8 ∷ Some 8 ∷ Some 10 ∷ Some 10 ∷ [])
+      (Some 2 ∷ Some 3 ∷ None ∷ None ∷ Some 6 ∷ None ∷ None ∷ [])
+      (None ∷ Some 5 ∷ Some 4 ∷ None ∷ None ∷ Some 7 ∷ None ∷ [])
+  pub several_depths : HasLinks several_depths (None ∷ Some 1 ∷ Some 1 ∷ Some 3 ∷ Some 3 ∷ Some 5 ∷ Some 5 ∷ Some 1
+      ∷ Some 8 ∷ Some 8 ∷ Some 10 ∷ Some 10 ∷ [])
       (Some 2 ∷ None ∷ Some 4 ∷ None ∷ Some 6 ∷ None ∷ None ∷ Some 9 ∷ None ∷ Some 11 ∷ None ∷ None ∷ [])
       (None ∷ Some 3 ∷ Some 8 ∷ Some 5 ∷ None ∷ Some 7 ∷ None ∷ None ∷ Some 10 ∷ None ∷ Some 12 ∷ None ∷ [])
-  pub nested_chance : HasLinks nested_chance (None ∷ Some 1 ∷ Some 2 ∷ Some 2 ∷ Some 4 ∷ Some 4 ∷ Some 2 ∷ Some 1 ∷ Some 8 ∷ Some 8 ∷ Some 10 ∷ Some 10 ∷ Some 10 ∷ [])
+  pub nested_chance : HasLinks nested_chance (None ∷ Some 1 ∷ Some 2 ∷ Some 2 ∷ Some 4 ∷ Some 4 ∷ Some 2 ∷ Some 1
+      ∷ Some 8 ∷ Some 8 ∷ Some 10 ∷ Some 10 ∷ Some 10 ∷ [])
       (Some 2 ∷ Some 3 ∷ None ∷ Some 5 ∷ None ∷ None ∷ None ∷ Some 9 ∷ None ∷ Some 11 ∷ None ∷ None ∷ None ∷ [])
       (None ∷ Some 8 ∷ Some 4 ∷ Some 7 ∷ Some 6 ∷ None ∷ None ∷ None ∷ Some 10 ∷ None ∷ Some 12 ∷ Some 13 ∷ None ∷ [])

@@ -9,7 +9,8 @@ outcome_count (node ∷ rest) = max node.outcome (outcome_count rest)
 
 -- each node has an outcome that came before, or the next one
 abbrev pub CountOutcomes : List Node → Type 0
-CountOutcomes nodes = (k : ℕ) (d : Node) → k < length nodes → (slice_index_or nodes k d).outcome ≤ outcome_count (take k nodes) + 1
+CountOutcomes nodes = (k : ℕ) (d : Node) → k < length nodes → (slice_index_or nodes k d).outcome
+    ≤ outcome_count (take k nodes) + 1
 
 -- then each number is that of a node's outcome
 abbrev pub EachOutcomeAppears : Type 0

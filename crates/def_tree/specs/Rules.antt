@@ -4,7 +4,8 @@
 --     KeepRules ns          each of the nodes keeps the rules after those before it
 --     IsGameTree t          a tree that keeps the rules, within the limit of nodes
 --     most_actions, most_nodes     the limits: a set's actions, a tree's nodes. Both are this project's own
-use Rattle.std.specs.Prelude.{◌≡◌, ◌↔◌, ℕ, ◌+◌, ◌<◌, ◌≤◌, Bool, true, false, if◌then◌else◌, max, List, [], ◌∷◌, length, take, slice_index_or, All, AllPairs, Contains}
+use Rattle.std.specs.Prelude.{◌≡◌, ◌↔◌, ℕ, ◌+◌, ◌<◌, ◌≤◌, Bool, true, false, if◌then◌else◌, max, List, [], ◌∷◌, length}
+use Rattle.std.specs.Prelude.{take, slice_index_or, All, AllPairs, Contains}
 use Rattle.def_tree.specs.declared.TheConstants.{MOST_ACTIONS, MOST_NODES}
 use Rattle.def_tree.specs.declared.Kind.{Kind}
 use Rattle.def_tree.specs.declared.Kind.TheVariants.{Chance, One, Two, Leaf}
@@ -27,7 +28,8 @@ is_same_kind _ _ = false
 -- how many sets of a kind these nodes are in: sets are numbered by first appearance, so it is the greatest number
 abbrev pub set_count : Kind → List Node → ℕ
 set_count kind [] = 0
-set_count kind (node ∷ rest) = if is_same_kind kind node.kind then max node.set (set_count kind rest) else set_count kind rest
+set_count kind (node ∷ rest) = if is_same_kind kind node.kind then max node.set (set_count kind rest) else set_count
+    kind rest
 
 -- two nodes that are in one set have equally many children
 abbrev pub AgreeOnSize : Node → Node → Type 0
@@ -88,7 +90,8 @@ leaf_node outcome = node_of_numbers Leaf 0 outcome 0
 
 -- player two doesn't see player one's choice
 abbrev pub matching_pennies : Forest
-matching_pennies = forest_of (inner_node One 1 2 ∷ inner_node Two 1 2 ∷ leaf_node 1 ∷ leaf_node 2 ∷ inner_node Two 1 2 ∷ leaf_node 2 ∷ leaf_node 1 ∷ [])
+matching_pennies = forest_of (inner_node One 1 2 ∷ inner_node Two 1 2 ∷ leaf_node 1 ∷ leaf_node 2 ∷ inner_node Two 1 2
+    ∷ leaf_node 2 ∷ leaf_node 1 ∷ [])
 
 -- The rules at their edges.
 

@@ -8,7 +8,8 @@
 --     forest_of ns                           the trees whose nodes in prefix order these are
 --     wanted n ns, Begins n ns, IsWhole ns   how many nodes are still to come; the nodes begin n trees;
 --                                            they are one whole tree
-use Rattle.std.specs.Prelude.{◌≡◌, ℕ, ◌+◌, ◌-◌, ◌<◌, zero, suc, Bool, true, false, List, [], ◌∷◌, ◌++◌, length, count_by, ◌↔◌}
+use Rattle.std.specs.Prelude.{◌≡◌, ℕ, ◌+◌, ◌-◌, ◌<◌, zero, suc, Bool, true, false, List, [], ◌∷◌, ◌++◌, length}
+use Rattle.std.specs.Prelude.{count_by, ◌↔◌}
 use Rattle.def_tree.specs.declared.Kind.{Kind}
 use Rattle.def_tree.specs.declared.Kind.TheVariants.{Chance, One, Two, Leaf}
 use Rattle.def_tree.specs.declared.Node.{Node}
@@ -46,7 +47,8 @@ tree_count (grown _ _ beside) = suc (tree_count beside)
 -- each node has as many children as it says
 abbrev pub HasItsChildren : Forest → Type 0
 HasItsChildren bare = Unit {0}
-HasItsChildren (grown node below beside) = (tree_count below ≡ node.children) × HasItsChildren below × HasItsChildren beside
+HasItsChildren (grown node below beside) = (tree_count below ≡ node.children) × HasItsChildren below
+    × HasItsChildren beside
 
 pub record IsTree (trees : Forest) : Type 0 where
   pub one : tree_count trees ≡ 1
@@ -66,7 +68,8 @@ drop_trees (suc n) (grown _ _ beside) = drop_trees n beside
 -- the first node stands over as many of the trees behind it as it has children
 abbrev pub forest_of : List Node → Forest
 forest_of [] = bare
-forest_of (node ∷ rest) = grown node (take_trees node.children (forest_of rest)) (drop_trees node.children (forest_of rest))
+forest_of (node ∷ rest) = grown node (take_trees node.children (forest_of rest))
+    (drop_trees node.children (forest_of rest))
 
 -- how many nodes are still wanted after these, where n were wanted before them:
 -- each takes its own place, and opens one for each child

@@ -1,5 +1,6 @@
 -- What numbers bring to the rows.
-use Rattle.std.proofs.Common.{◌≡◌, ℕ, ◌+◌, ◌*◌, ◌<◌, ◌≤◌, Bool, true, false, cond, ltb, List, [], ◌∷◌, ◌++◌, length, ℤ, pos, negsuc, unsigned_abs, refl, ap, inl, inr, arith}
+use Rattle.std.proofs.Common.{◌≡◌, ℕ, ◌+◌, ◌*◌, ◌<◌, ◌≤◌, Bool, true, false, cond, ltb, List, [], ◌∷◌, ◌++◌, length, ℤ, pos, negsuc, unsigned_abs, refl, ap}
+use Rattle.std.proofs.Common.{inl, inr, arith}
 use Rattle.std.specs.List.{range_with_len}
 use Rattle.std.proofs.lemmas.Bool.{cases_lt}
 use Rattle.std.proofs.lemmas.Bool.Decides.{nat_tests}
@@ -29,7 +30,11 @@ size_le negative (negsuc n) = omega arith
 
 -- a number whose amount at a row is 0, where it is a job's, brings nothing there
 pub brings_nothing : (jobs : ℕ) (amount : ℕ → ℕ → ℤ) (side : Side) (row n : ℕ) → (n < jobs → amount n row ≡ pos 0) → brings jobs amount side row n ≡ 0
-brings_nothing jobs amount side row n none = elim (cases_lt n jobs) [ inl is_job ↦ (let e = size_zero side (amount n row) (none is_job) in grind (arith, nat_tests, e)) | inr past ↦ grind (arith, nat_tests) ]
+brings_nothing jobs amount side row n none = elim (cases_lt n jobs) [
+  | inl is_job ↦
+      (let e = size_zero side (amount n row) (none is_job) in grind (arith, nat_tests, e))
+  | inr past ↦ grind (arith, nat_tests)
+]
 
 pub brings_past : (jobs : ℕ) (amount : ℕ → ℕ → ℤ) (side : Side) (row n : ℕ) → jobs ≤ n → brings jobs amount side row n ≡ 0
 brings_past jobs amount side row n past = brings_nothing jobs amount side row n (λ is_job. absurd (omega (arith, past, is_job)))
@@ -42,10 +47,15 @@ brings_le jobs amount side row n = let e = size_le side (amount n row) in grind 
 
 -- what the last number brings counts where the row is below the one that is reached
 once_reached : (f n row reached : ℕ) → (reached ≤ row → f ≡ 0) → cond (ltb row reached) f 0 ≡ f
-once_reached f n row reached none = elim (cases_lt row reached) [ inl below ↦ grind (arith, nat_tests) | inr above ↦ (let e = none above in grind (arith, nat_tests, e)) ]
+once_reached f n row reached none = elim (cases_lt row reached) [
+  | inl below ↦ grind (arith, nat_tests)
+  | inr above ↦
+      (let e = none above in grind (arith, nat_tests, e))
+]
 
 -- a complete list has brought all that its numbers bring
-pub whole_list : (jobs rows : ℕ) (amount : ℕ → ℕ → ℤ) (side : Side) (row reached : ℕ) (numbers : List ℕ) → row < rows → LastIsComplete jobs rows amount reached numbers
+pub whole_list : (jobs rows : ℕ) (amount : ℕ → ℕ → ℤ) (side : Side) (row reached : ℕ) (numbers : List ℕ) → row < rows
+    → LastIsComplete jobs rows amount reached numbers
     → brought_so_far (brings jobs amount side row) row reached numbers ≡ nat_sum_over (brings jobs amount side row) numbers
 whole_list jobs rows amount side row reached [] below complete = refl
 whole_list jobs rows amount side row reached (n ∷ ns) below complete =
@@ -85,7 +95,8 @@ only_jobs jobs more amount side row =
     let parts = ap (nat_sum_over f) (range-append 0 jobs more) in
     let apart = nat_sum_over-append f (range_with_len 0 jobs) (range_with_len (0 + jobs) more) in
     let none : nat_sum_over f (range_with_len (0 + jobs) more) ≤ length (range_with_len (0 + jobs) more) * 0 =
-    nat_sum_over-bounded f 0 (range_with_len (0 + jobs) more) (All-range (λ n. f n ≤ 0) (0 + jobs) more (λ n low high. let e = brings_past jobs amount side row n (omega (arith, low)) in omega (arith, e))) in
+    nat_sum_over-bounded f 0 (range_with_len (0 + jobs) more) (All-range (λ n. f n ≤ 0) (0 + jobs) more
+    (λ n low high. let e = brings_past jobs amount side row n (omega (arith, low)) in omega (arith, e))) in
     omega (arith, parts, apart, none)
 
 -- what views have added is small where each number stands once in them at most

@@ -1,5 +1,6 @@
 -- Steps on the words as steps of the core.
-use Rattle.std.proofs.Common.{◌≡◌, ◌≢◌, ℕ, zero, suc, ◌+◌, ◌-◌, ◌*◌, ◌%◌, ◌<◌, ◌≤◌, ◌&&◌, Bool, true, false, cond, ltb, List, [], ◌∷◌, ◌++◌, length, get_or, set, replicate, ℤ, slice_index, refl, sym, ap, ◌∙◌, subst, inl, inr, arith}
+use Rattle.std.proofs.Common.{◌≡◌, ◌≢◌, ℕ, zero, suc, ◌+◌, ◌-◌, ◌*◌, ◌%◌, ◌<◌, ◌≤◌, ◌&&◌, Bool, true, false, cond, ltb, List, [], ◌∷◌, ◌++◌, length, get_or}
+use Rattle.std.proofs.Common.{set, replicate, ℤ, slice_index, refl, sym, ap, ◌∙◌, subst, inl, inr, arith}
 use Rattle.std.specs.Prelude.{IsPermutation, All}
 use Rattle.std.specs.List.{range_with_len}
 use mathlib.Core.Option.{some, some-injective, some-ne-none}
@@ -22,8 +23,10 @@ use Rattle.def_words.specs.declared.view.View.TheVariants.{Owner, Worker, Spent}
 use Rattle.def_words.specs.Views.{worker_count}
 use Rattle.def_words.specs.Amounts.{AreSmall, side_of, word_at}
 use Rattle.def_words.specs.Rule.{AreWordsKept}
-use Rattle.def_words.specs.Steps.{WordState, WordStep, claim, add, split, join, close, OneStepLeads, AreWordsReached, at_first, after_step, Claims, Adds as AddsWord, Splits, Joins, opening_words}
-use Rattle.def_words.specs.CoreSteps.{has_left, unclaimed, view_at, last_number, rights_held, rights_in, Shows, core_steps, StepsAreCoreSteps, RunsAreCoreRuns, ClosesAtTheEnd}
+use Rattle.def_words.specs.Steps.{WordState, WordStep, claim, add, split, join, close, OneStepLeads, AreWordsReached, at_first, after_step, Claims}
+use Rattle.def_words.specs.Steps.{Adds as AddsWord, Splits, Joins, opening_words}
+use Rattle.def_words.specs.CoreSteps.{has_left, unclaimed, view_at, last_number, rights_held, rights_in, Shows, core_steps, StepsAreCoreSteps, RunsAreCoreRuns}
+use Rattle.def_words.specs.CoreSteps.{ClosesAtTheEnd}
 use Rattle.def_words.proofs.Sums.{elem_set_other}
 use Rattle.def_words.proofs.Moves.{all_out, claims_few, owner_no_worker, word_after, word_other, word_not_zero}
 use Rattle.def_words.proofs.Runs.{close_with_sums, reached_kept, step_keeps, zero_word}
@@ -66,7 +69,8 @@ module _ (jobs rows : ℕ) (amount : ℕ → ℕ → ℤ) where
   both_set passes views seat held w is_pass is_seat same before s = elim (cases_eq s seat) [
     | inl here ↦ subst (λ k. get_or (set passes seat held) k [] ≡ held_at (set views seat w) k) (sym here)
         (get_or-set_same passes seat held [] is_pass ∙ sym same ∙ ap (rights_in jobs rows amount) (sym (get_or-set_same views seat w Spent is_seat)))
-    | inr other ↦ (get_or-set_other passes seat s held [] other ∙ before s ∙ ap (rights_in jobs rows amount) (sym (get_or-set_other views seat s w Spent other)))
+    | inr other ↦ (get_or-set_other passes seat s held [] other ∙ before s
+        ∙ ap (rights_in jobs rows amount) (sym (get_or-set_other views seat s w Spent other)))
   ]
 
   -- the rights of a worker whose last number is this one
@@ -93,13 +97,15 @@ adds_to core seat job stripes is_pass held =
     local_steps_are_steps.under_a_stripe core seat job 0 (history_of core 0 ++ job ∷ []) [] is_pass (omega (arith, stripes))
     (record { gives_right = subst (λ r. IsPermutation r (rights_of job 1)) (sym held) (IsPermutation-refl (rights_of job 1)); joins_history = refl })
 
-draws_to : (jobs : ℕ) (core : CoreState) (seat n : ℕ) → n < jobs → core.bag ≡ unclaimed jobs n → stripe_count core ≡ 1 → seat < length core.passes → rights_of_pass core seat ≡ []
+draws_to : (jobs : ℕ) (core : CoreState) (seat n : ℕ) → n < jobs → core.bag ≡ unclaimed jobs n → stripe_count core ≡ 1 → seat < length core.passes
+    → rights_of_pass core seat ≡ []
     → Draws core seat n (with_bag core seat (unclaimed jobs (n + 1)) (rights_of n 1))
 draws_to jobs core seat n is_job bag stripes is_pass held =
     local_steps_are_steps.under_the_bag core seat n (unclaimed jobs (n + 1)) (rights_of n 1) is_pass
     (record {
       held_none = held;
-      leaves_bag = subst (λ b. IsPermutation b (n ∷ unclaimed jobs (n + 1))) (sym (bag ∙ unclaimed_more jobs n is_job)) (IsPermutation-refl (n ∷ unclaimed jobs (n + 1)));
+      leaves_bag = subst (λ b. IsPermutation b (n ∷ unclaimed jobs (n + 1))) (sym (bag ∙ unclaimed_more jobs n is_job))
+          (IsPermutation-refl (n ∷ unclaimed jobs (n + 1)));
       gets_rights = subst (λ k. IsPermutation (rights_of n k) (rights_of n 1)) (sym stripes) (IsPermutation-refl (rights_of n 1));
     })
 
@@ -126,12 +132,14 @@ claim_led jobs rows amount before seat after core small kept s shows seats = by_
     is_pass = let a = is_seat in omega (arith, a, shows.seats)
 
     idle : rights_of_pass core seat ≡ []
-    idle = shows.passes seat ∙ ap (rights_in jobs rows amount) (elem_is before.views seat (Worker s.numbers s.reached) Spent s.worker) ∙ held_none jobs rows amount s.reached s.numbers s.complete
+    idle = shows.passes seat ∙ ap (rights_in jobs rows amount) (elem_is before.views seat (Worker s.numbers s.reached) Spent s.worker)
+        ∙ held_none jobs rows amount s.reached s.numbers s.complete
 
     one_more : slice_index after.words 0 ≡ n + 1
     one_more =
         let few : n ≤ jobs + most_workers = claims_few jobs rows amount before.words before.views kept in
-        ap (λ ws. slice_index ws 0) s.words ∙ word_after before.words 0 ((n + 1) % 18446744073709551616) (omega (arith, kept.count)) ∙ mod-eq_of_lt (omega (arith, few, small.few))
+        ap (λ ws. slice_index ws 0) s.words ∙ word_after before.words 0 ((n + 1) % 18446744073709551616) (omega (arith, kept.count))
+        ∙ mod-eq_of_lt (omega (arith, few, small.few))
 
     drawn : CoreState
     drawn = with_bag core seat (unclaimed jobs (n + 1)) (rights_of n 1)
@@ -154,7 +162,8 @@ claim_led jobs rows amount before seat after core small kept s shows seats = by_
       leads = first (draws e) none;
       shows = record {
         bag = ap (unclaimed jobs) (sym one_more);
-        passes = λ s'. both_set jobs rows amount core.passes before.views seat (rights_of n 1) new is_pass is_seat (held_by jobs rows amount true true 0 n s.numbers e f) shows.passes s' ∙ views_after s';
+        passes = λ s'. both_set jobs rows amount core.passes before.views seat (rights_of n 1) new is_pass is_seat
+            (held_by jobs rows amount true true 0 n s.numbers e f) shows.passes s' ∙ views_after s';
         stripes = shows.stripes;
         seats = let a = length-set core.passes seat (rights_of n 1) in omega (arith, a, seats);
       };
@@ -165,9 +174,12 @@ claim_led jobs rows amount before seat after core small kept s shows seats = by_
       leads = first (draws e) (first (adds_to drawn seat n shows.stripes drawn_pass has_drawn) none);
       shows = record {
         bag = ap (unclaimed jobs) (sym one_more);
-        passes = λ s'. ap (λ ps. get_or ps s' []) (set_twice core.passes seat (rights_of n 1) []) ∙ both_set jobs rows amount core.passes before.views seat [] new is_pass is_seat (held_by jobs rows amount true false 0 n s.numbers e f) shows.passes s' ∙ views_after s';
+        passes = λ s'. ap (λ ps. get_or ps s' []) (set_twice core.passes seat (rights_of n 1) [])
+            ∙ both_set jobs rows amount core.passes before.views seat [] new is_pass is_seat (held_by jobs rows amount true false 0 n s.numbers e f)
+            shows.passes s' ∙ views_after s';
         stripes = length-set core.histories 0 (history_of core 0 ++ n ∷ []) ∙ shows.stripes;
-        seats = let a = length-set core.passes seat (rights_of n 1) in let b = length-set (set core.passes seat (rights_of n 1)) seat [] in omega (arith, a, b, seats);
+        seats = let a = length-set core.passes seat (rights_of n 1) in let b = length-set (set core.passes seat (rights_of n 1)) seat [] in omega
+            (arith, a, b, seats);
       };
       count = length-set (set core.passes seat (rights_of n 1)) seat [] ∙ length-set core.passes seat (rights_of n 1);
     }
@@ -175,8 +187,10 @@ claim_led jobs rows amount before seat after core small kept s shows seats = by_
       next = core;
       leads = none;
       shows = record {
-        bag = shows.bag ∙ unclaimed_none jobs n (ltb-false n jobs e) ∙ sym (unclaimed_none jobs (n + 1) (let a = ltb-false n jobs e in omega (arith, a))) ∙ ap (unclaimed jobs) (sym one_more);
-        passes = λ s'. shows.passes s' ∙ sym (same_after_set jobs rows amount before.views seat (Worker s.numbers s.reached) new s.worker (held_by jobs rows amount false c 0 n s.numbers e f ∙ sym (held_none jobs rows amount s.reached s.numbers s.complete)) s') ∙ views_after s';
+        bag = shows.bag ∙ unclaimed_none jobs n (ltb-false n jobs e) ∙ sym (unclaimed_none jobs (n + 1) (let a = ltb-false n jobs e in omega (arith, a)))
+            ∙ ap (unclaimed jobs) (sym one_more);
+        passes = λ s'. shows.passes s' ∙ sym (same_after_set jobs rows amount before.views seat (Worker s.numbers s.reached) new s.worker
+            (held_by jobs rows amount false c 0 n s.numbers e f ∙ sym (held_none jobs rows amount s.reached s.numbers s.complete)) s') ∙ views_after s';
         stripes = shows.stripes;
         seats = seats;
       };
@@ -189,7 +203,8 @@ add_led : (jobs rows : ℕ) (amount : ℕ → ℕ → ℤ) (before : WordState) 
     → Shows jobs rows amount before core → length after.views ≤ length core.passes
     → Led jobs rows amount core (core_steps jobs rows amount before (add seat row)) after
 add_led jobs rows amount before seat row after core kept s shows seats =
-    subst (λ j. Led jobs rows amount core (cond (has_left amount (row + 1) j rows) [] (core_add seat j 0 ∷ [])) after) (sym last_is) (by_case (has_left amount (row + 1) s.job rows) refl)
+    subst (λ j. Led jobs rows amount core (cond (has_left amount (row + 1) j rows) [] (core_add seat j 0 ∷ [])) after) (sym last_is)
+    (by_case (has_left amount (row + 1) s.job rows) refl)
   where
     old : View
     old = Worker (s.job ∷ s.earlier) s.reached
@@ -216,7 +231,8 @@ add_led jobs rows amount before seat row after core kept s shows seats =
     is_one = let a = s.is_job in grind (arith, nat_tests, a)
 
     same_word : slice_index after.words 0 ≡ slice_index before.words 0
-    same_word = ap (λ ws. slice_index ws 0) s.words ∙ word_other before.words (word_at (side_of (amount s.job row)) row) 0 _ (λ e. word_not_zero (side_of (amount s.job row)) row (sym e))
+    same_word = ap (λ ws. slice_index ws 0) s.words ∙ word_other before.words (word_at (side_of (amount s.job row)) row) 0 _
+        (λ e. word_not_zero (side_of (amount s.job row)) row (sym e))
 
     views_after : (s' : ℕ) → held_at jobs rows amount (set before.views seat new) s' ≡ rights_in jobs rows amount (view_at after s')
     views_after s' = ap (λ (vs : List View). held_at jobs rows amount vs s') (sym s.views)
@@ -227,7 +243,8 @@ add_led jobs rows amount before seat row after core kept s shows seats =
       leads = none;
       shows = record {
         bag = shows.bag ∙ ap (unclaimed jobs) (sym same_word);
-        passes = λ s'. shows.passes s' ∙ sym (same_after_set jobs rows amount before.views seat old new s.worker (held_by jobs rows amount true true (row + 1) s.job s.earlier is_one f ∙ sym held) s') ∙ views_after s';
+        passes = λ s'. shows.passes s' ∙ sym (same_after_set jobs rows amount before.views seat old new s.worker
+            (held_by jobs rows amount true true (row + 1) s.job s.earlier is_one f ∙ sym held) s') ∙ views_after s';
         stripes = shows.stripes;
         seats = seats;
       };
@@ -238,7 +255,8 @@ add_led jobs rows amount before seat row after core kept s shows seats =
       leads = first (adds_to core seat s.job shows.stripes is_pass has_right) none;
       shows = record {
         bag = shows.bag ∙ ap (unclaimed jobs) (sym same_word);
-        passes = λ s'. both_set jobs rows amount core.passes before.views seat [] new is_pass is_seat (held_by jobs rows amount true false (row + 1) s.job s.earlier is_one f) shows.passes s' ∙ views_after s';
+        passes = λ s'. both_set jobs rows amount core.passes before.views seat [] new is_pass is_seat
+            (held_by jobs rows amount true false (row + 1) s.job s.earlier is_one f) shows.passes s' ∙ views_after s';
         stripes = length-set core.histories 0 (history_of core 0 ++ s.job ∷ []) ∙ shows.stripes;
         seats = let a = length-set core.passes seat [] in omega (arith, a, seats);
       };
@@ -277,10 +295,12 @@ join_same jobs rows amount before seat other after j s =
     let old : View = Owner j.numbers j.made j.unjoined in
     let new : View = Owner (j.worker_numbers ++ j.numbers) j.made (j.unjoined - 1) in
     let worker : View = Worker j.worker_numbers j.reached in
-    let apart : other ≢ seat = λ same. owner_no_worker j.numbers j.made j.unjoined j.worker_numbers j.reached (some-injective old worker (sym j.owner ∙ ap (get_elem? before.views) (sym same) ∙ j.worker)) in
+    let apart : other ≢ seat = λ same. owner_no_worker j.numbers j.made j.unjoined j.worker_numbers j.reached
+    (some-injective old worker (sym j.owner ∙ ap (get_elem? before.views) (sym same) ∙ j.worker)) in
     let there : get_elem? (set before.views seat new) other ≡ some worker = elem_set_other before.views seat other new apart ∙ j.worker in
     sym (same_after_set jobs rows amount before.views seat old new j.owner refl s)
-    ∙ sym (same_after_set jobs rows amount (set before.views seat new) other worker Spent there (sym (held_none jobs rows amount j.reached j.worker_numbers j.complete)) s)
+    ∙ sym (same_after_set jobs rows amount (set before.views seat new) other worker Spent there
+    (sym (held_none jobs rows amount j.reached j.worker_numbers j.complete)) s)
     ∙ ap (λ (vs : List View). held_at jobs rows amount vs s) (sym j.views)
 
 led : (jobs rows : ℕ) (amount : ℕ → ℕ → ℤ) (before : WordState) (step : WordStep) (after : WordState) (core : CoreState)
@@ -289,10 +309,13 @@ led : (jobs rows : ℕ) (amount : ℕ → ℕ → ℤ) (before : WordState) (ste
     → Led jobs rows amount core (core_steps jobs rows amount before step) after
 led jobs rows amount before (claim seat) after core small kept s shows seats = claim_led jobs rows amount before seat after core small kept s shows seats
 led jobs rows amount before (add seat row) after core small kept s shows seats = add_led jobs rows amount before seat row after core kept s shows seats
-led jobs rows amount before (split seat) after core small kept s shows seats = stays_led jobs rows amount before after core s.words (split_same jobs rows amount before seat after s) shows seats
-led jobs rows amount before (join seat other) after core small kept s shows seats = stays_led jobs rows amount before after core s.words (join_same jobs rows amount before seat other after s) shows seats
+led jobs rows amount before (split seat) after core small kept s shows seats = stays_led jobs rows amount before after core s.words
+    (split_same jobs rows amount before seat after s) shows seats
+led jobs rows amount before (join seat other) after core small kept s shows seats = stays_led jobs rows amount before after core s.words
+    (join_same jobs rows amount before seat other after s) shows seats
 led jobs rows amount before (close seat) after core small kept s shows seats =
-    stays_led jobs rows amount before after core (ap (λ (t : WordState). t.words) s.same) (λ k. ap (λ (t : WordState). rights_in jobs rows amount (view_at t k)) (sym s.same)) shows seats
+    stays_led jobs rows amount before after core (ap (λ (t : WordState). t.words) s.same)
+    (λ k. ap (λ (t : WordState). rights_in jobs rows amount (view_at t k)) (sym s.same)) shows seats
 
 pub steps_lead : StepsAreCoreSteps
 steps_lead jobs rows amount before step after core small kept s shows seats =
@@ -307,8 +330,10 @@ steps_after (first step rest) later = first step (steps_after rest later)
 -- no step takes a seat away
 more_seats : (jobs rows : ℕ) (amount : ℕ → ℕ → ℤ) (before : WordState) (step : WordStep) (after : WordState) → OneStepLeads jobs rows amount before step after
     → length before.views ≤ length after.views
-more_seats jobs rows amount before (claim seat) after s = let a = ap length s.views in let b = length-set before.views seat (Worker (slice_index before.words 0 ∷ s.numbers) 0) in omega (arith, a, b)
-more_seats jobs rows amount before (add seat row) after s = let a = ap length s.views in let b = length-set before.views seat (Worker (s.job ∷ s.earlier) (row + 1)) in omega (arith, a, b)
+more_seats jobs rows amount before (claim seat) after s = let a = ap length s.views in let b = length-set before.views seat
+    (Worker (slice_index before.words 0 ∷ s.numbers) 0) in omega (arith, a, b)
+more_seats jobs rows amount before (add seat row) after s = let a = ap length s.views in let b = length-set before.views seat
+    (Worker (s.job ∷ s.earlier) (row + 1)) in omega (arith, a, b)
 more_seats jobs rows amount before (split seat) after s =
     let new : View = Owner s.numbers (s.made + 1) (s.unjoined + 1) in
     let a = ap length s.views in
@@ -375,7 +400,8 @@ core_run jobs rows amount state passes small at_first seats = first_shows jobs r
 core_run jobs rows amount state passes small (after_step {before} step run s) seats =
     let grown = more_seats jobs rows amount before step state s in
     let r = core_run jobs rows amount before passes small run (omega (arith, grown, seats)) in
-    let l = led jobs rows amount before step state r.core small (reached_kept jobs rows amount before small run) s r.shows (let c = r.count in omega (arith, c, seats)) in
+    let l = led jobs rows amount before step state r.core small (reached_kept jobs rows amount before small run) s r.shows
+    (let c = r.count in omega (arith, c, seats)) in
     record {
       core = l.next;
       reached = (let o = r.reached in (o.0, o.1 ++ core_steps jobs rows amount before step, o.2, steps_after o.3 l.leads));
@@ -403,8 +429,10 @@ pub closes_at_end : ClosesAtTheEnd
 closes_at_end jobs rows amount before seat after core small run s shows =
     let told = close_with_sums jobs rows amount before seat after small run s in
     let kept = step_keeps jobs rows amount before (close seat) after small (reached_kept jobs rows amount before small run) s in
-    let at : get_elem? after.views seat ≡ some (Owner s.numbers s.made 0) = subst (λ (t : WordState). get_elem? t.views seat ≡ some (Owner s.numbers s.made 0)) (sym s.same) s.owner in
+    let at : get_elem? after.views seat ≡ some (Owner s.numbers s.made 0) = subst (λ (t : WordState). get_elem? t.views seat ≡ some (Owner s.numbers s.made 0))
+    (sym s.same) s.owner in
     let no_worker = all_out jobs rows amount after.words after.views seat s.numbers s.made 0 kept at in (
       shows.bag ∙ unclaimed_none jobs (slice_index after.words 0) (let a = told.all_jobs in omega (arith, a)),
-      (λ k d below. get_or_default core.passes k d [] below ∙ shows.passes k ∙ idle_holds_nothing jobs rows amount (get_or after.views k Spent) (no_worker_at after.views k no_worker)),
+      (λ k d below. get_or_default core.passes k d [] below ∙ shows.passes k
+          ∙ idle_holds_nothing jobs rows amount (get_or after.views k Spent) (no_worker_at after.views k no_worker)),
     )

@@ -1,5 +1,6 @@
 -- Each step keeps the rule.
-use Rattle.std.proofs.Common.{◌≡◌, ◌≢◌, ℕ, zero, suc, ◌+◌, ◌-◌, ◌*◌, ◌%◌, ◌^◌, ◌<◌, ◌≤◌, Bool, true, false, cond, eqb, ltb, leb, List, [], ◌∷◌, ◌++◌, set, length, All, ℤ, pos, negsuc, unsigned_abs, slice_index, refl, sym, ap, ◌∙◌, subst, inl, inr, arith}
+use Rattle.std.proofs.Common.{◌≡◌, ◌≢◌, ℕ, zero, suc, ◌+◌, ◌-◌, ◌*◌, ◌%◌, ◌^◌, ◌<◌, ◌≤◌, Bool, true, false, cond, eqb, ltb, leb, List, [], ◌∷◌, ◌++◌, set}
+use Rattle.std.proofs.Common.{length, All, ℤ, pos, negsuc, unsigned_abs, slice_index, refl, sym, ap, ◌∙◌, subst, inl, inr, arith}
 use mathlib.Core.Option.{some, some-injective, some-ne-none}
 use lib.ListN.{get_elem?}
 use Rattle.std.proofs.lemmas.Bool.{cases_lt, cases_eq}
@@ -31,7 +32,8 @@ fits_at jobs (x ∷ xs) zero v all e = subst (ViewFits jobs) (some-injective x v
 fits_at jobs (x ∷ xs) (suc id) v all e = fits_at jobs xs id v (λ k d below. all (suc k) d (omega arith)) e
 
 -- the claim word is at most the number of jobs and of workers together
-pub claims_few : (jobs rows : ℕ) (amount : ℕ → ℕ → ℤ) (words : List ℕ) (views : List View) → AreWordsKept jobs rows amount words views → slice_index words 0 ≤ jobs + most_workers
+pub claims_few : (jobs rows : ℕ) (amount : ℕ → ℕ → ℤ) (words : List ℕ) (views : List View) → AreWordsKept jobs rows amount words views → slice_index words 0
+    ≤ jobs + most_workers
 claims_few jobs rows amount words views k =
     let a = nat_sum_over-mono (λ v. past_jobs jobs (numbers_of v) + unjoined_of v) (λ v. made_of v + worker_count v) views (λ i d h. (k.fits i d h).past) in
     let b = nat_sum_over-add (λ v. past_jobs jobs (numbers_of v)) unjoined_of views in
@@ -78,7 +80,8 @@ claims_kept jobs rows amount words views id numbers reached small below complete
     let w : View = Worker (n ∷ numbers) 0 in
     let few : n ≤ jobs + most_workers = claims_few jobs rows amount words views k in
     let wraps : (n + 1) % 18446744073709551616 ≡ n + 1 = mod-eq_of_lt (omega (arith, few, small.few)) in
-    let after : slice_index (set words 0 ((n + 1) % 18446744073709551616)) 0 ≡ n + 1 = word_after words 0 ((n + 1) % 18446744073709551616) (omega (arith, k.count)) ∙ wraps in
+    let after : slice_index (set words 0 ((n + 1) % 18446744073709551616)) 0 ≡ n
+    + 1 = word_after words 0 ((n + 1) % 18446744073709551616) (omega (arith, k.count)) ∙ wraps in
     record {
       count = length-set words 0 ((n + 1) % 18446744073709551616) ∙ k.count;
       claimed = λ m.
@@ -92,7 +95,11 @@ claims_kept jobs rows amount words views id numbers reached small below complete
           (let a = sum_set (λ u. past_jobs jobs (numbers_of u)) views id v w at in
           let c = past-cons jobs n numbers in
           rw after (past_more jobs n _ _ _ _ a k.past c));
-      fits = All-set (ViewFits jobs) views id w (record { past = (let c = past-cons jobs n numbers in let d = past_none jobs numbers below in omega (arith, c, d, at_most_one (leb jobs n))); made = omega arith }) k.fits;
+      fits = All-set (ViewFits jobs) views id w (record {
+        past = (let c = past-cons jobs n numbers in let d = past_none jobs numbers below in omega
+            (arith, c, d, at_most_one (leb jobs n)));
+        made = omega arith;
+      }) k.fits;
       sums = λ side row here.
           let f : ℕ → ℕ = brings jobs amount side row in
           let a = sum_set (added_in f row) views id v w at in
@@ -107,7 +114,8 @@ claims_kept jobs rows amount words views id numbers reached small below complete
     at_most_one true = omega arith
     at_most_one false = omega arith
 
-    claimed_more : (m n after before old : ℕ) → after + old ≡ before + times m (n ∷ numbers) → before ≡ cond (ltb m n) 1 0 → times m (n ∷ numbers) ≡ cond (eqb n m) 1 0 + old → after ≡ cond (ltb m (n + 1)) 1 0
+    claimed_more : (m n after before old : ℕ) → after + old ≡ before + times m (n ∷ numbers) → before ≡ cond (ltb m n) 1 0 → times m (n ∷ numbers)
+        ≡ cond (eqb n m) 1 0 + old → after ≡ cond (ltb m (n + 1)) 1 0
     claimed_more m n after before old a b c = grind (arith, nat_tests, a, b, c)
 
     past_more : (jobs n after before old new : ℕ) → after + old ≡ before + new → before ≡ n - jobs → new ≡ cond (leb jobs n) 1 0 + old → after ≡ n + 1 - jobs
@@ -149,26 +157,33 @@ own_size : (a : ℤ) → size_at (side_of a) a ≡ unsigned_abs a
 own_size (pos n) = refl
 own_size (negsuc n) = omega arith
 
-same_side : (words : List ℕ) (side : Side) (row row' x k : ℕ) (a : ℤ) → word_at side row < length words → x ≡ slice_index words (word_at side row) + size_at side a
+same_side : (words : List ℕ) (side : Side) (row row' x k : ℕ) (a : ℤ) → word_at side row < length words → x ≡ slice_index words (word_at side row)
+    + size_at side a
     → slice_index (set words (word_at side row) x) (word_at side row') ≡ slice_index words (word_at side row') + gain a row side row'
 same_side words side row row' x k a inside is = elim (cases_eq row' row) [
   | inl same ↦ subst (λ r. slice_index (set words (word_at side row) x) (word_at side r) ≡ slice_index words (word_at side r) + gain a row side r) (sym same)
       (word_after words (word_at side row) x inside ∙ is ∙ ap (λ g. slice_index words (word_at side row) + g) (sym (gain_here a row side)))
-  | inr apart ↦ (let u = word_other words (word_at side row) (word_at side row') x (other_row side row row' apart) in let g = gain_else a row side row' apart in omega (arith, u, g))
+  | inr apart ↦ (let u = word_other words (word_at side row) (word_at side row') x (other_row side row row' apart) in let g = gain_else a row side row'
+      apart in omega (arith, u, g))
 ]
 
 words_grown : (words : List ℕ) (row row' rows x : ℕ) (a : ℤ) (side : Side) → length words ≡ 2 * rows + 1 → row < rows
     → x ≡ slice_index words (word_at (side_of a) row) + size_at (side_of a) a
     → slice_index (set words (word_at (side_of a) row) x) (word_at side row') ≡ slice_index words (word_at side row') + gain a row side row'
-words_grown words row row' rows x (pos n) positive count below is = same_side words positive row row' x n (pos n) (let h = word_fits positive row rows below in omega (arith, h, count)) is
-words_grown words row row' rows x (pos n) negative count below is = let u = word_other words (word_at positive row) (word_at negative row') x (other_side_negative row row') in let g = gain_none (pos n) row negative row' refl in omega (arith, u, g)
-words_grown words row row' rows x (negsuc n) positive count below is = let u = word_other words (word_at negative row) (word_at positive row') x (other_side_positive row row') in let g = gain_none (negsuc n) row positive row' refl in omega (arith, u, g)
-words_grown words row row' rows x (negsuc n) negative count below is = same_side words negative row row' x n (negsuc n) (let h = word_fits negative row rows below in omega (arith, h, count)) is
+words_grown words row row' rows x (pos n) positive count below is = same_side words positive row row' x n (pos n)
+    (let h = word_fits positive row rows below in omega (arith, h, count)) is
+words_grown words row row' rows x (pos n) negative count below is = let u = word_other words (word_at positive row) (word_at negative row') x
+    (other_side_negative row row') in let g = gain_none (pos n) row negative row' refl in omega (arith, u, g)
+words_grown words row row' rows x (negsuc n) positive count below is = let u = word_other words (word_at negative row) (word_at positive row') x
+    (other_side_positive row row') in let g = gain_none (negsuc n) row positive row' refl in omega (arith, u, g)
+words_grown words row row' rows x (negsuc n) negative count below is = same_side words negative row row' x n (negsuc n)
+    (let h = word_fits negative row rows below in omega (arith, h, count)) is
 
 -- what a list has brought grows by what its last number brings at the row
 brought_grown : (jobs : ℕ) (amount : ℕ → ℕ → ℤ) (side : Side) (row row' reached job : ℕ) (earlier : List ℕ) → job < jobs → reached ≤ row
     → ((r : ℕ) → reached ≤ r → r < row → amount job r ≡ pos 0)
-    → brought_so_far (brings jobs amount side row') row' (row + 1) (job ∷ earlier) ≡ brought_so_far (brings jobs amount side row') row' reached (job ∷ earlier) + gain (amount job row) row side row'
+    → brought_so_far (brings jobs amount side row') row' (row + 1) (job ∷ earlier) ≡ brought_so_far (brings jobs amount side row') row' reached (job ∷ earlier)
+    + gain (amount job row) row side row'
 brought_grown jobs amount side row row' reached job earlier is_job after between =
     let f : ℕ → ℕ = brings jobs amount side row' in
     let rest : ℕ = nat_sum_over f earlier in
@@ -186,7 +201,8 @@ brought_grown jobs amount side row row' reached job earlier is_job after between
             omega (arith, g, c))
         | inr from ↦ (elim (cases_eq row' row) [
           | inl same ↦
-              (let g : gain (amount job row) row side row' ≡ f job = ap (gain (amount job row) row side) same ∙ gain_here (amount job row) row side ∙ ap (λ r. size_at side (amount job r)) (sym same) ∙ sym own in
+              (let g : gain (amount job row) row side row' ≡ f job = ap (gain (amount job row) row side) same ∙ gain_here (amount job row) row side
+              ∙ ap (λ r. size_at side (amount job r)) (sym same) ∙ sym own in
               let c : cond (ltb row' (row + 1)) (f job) 0 ≡ cond (ltb row' reached) (f job) 0 + f job = grind (arith, nat_tests, same, above) in
               omega (arith, g, c))
           | inr apart ↦
@@ -198,9 +214,12 @@ brought_grown jobs amount side row row' reached job earlier is_job after between
     ]
 
 pub adds_kept : (jobs rows : ℕ) (amount : ℕ → ℕ → ℤ) (words : List ℕ) (views : List View) (id : ℕ) (job : ℕ) (earlier : List ℕ) (reached row : ℕ)
-    → AreSmall jobs rows amount → row < rows → job < jobs → reached ≤ row → ((r : ℕ) → reached ≤ r → r < row → amount job r ≡ pos 0) → AreWordsKept jobs rows amount words views
+    → AreSmall jobs rows amount → row < rows → job < jobs → reached ≤ row → ((r : ℕ) → reached ≤ r → r < row → amount job r ≡ pos 0)
+    → AreWordsKept jobs rows amount words views
     → get_elem? views id ≡ some (Worker (job ∷ earlier) reached)
-    → AreWordsKept jobs rows amount (set words (word_at (side_of (amount job row)) row) ((slice_index words (word_at (side_of (amount job row)) row) + unsigned_abs (amount job row)) % 18446744073709551616)) (set views id (Worker (job ∷ earlier) (row + 1)))
+    → AreWordsKept jobs rows amount (set words (word_at (side_of (amount job row)) row)
+    ((slice_index words (word_at (side_of (amount job row)) row) + unsigned_abs (amount job row)) % 18446744073709551616))
+    (set views id (Worker (job ∷ earlier) (row + 1)))
 adds_kept jobs rows amount words views id job earlier reached row small below is_job after between k at =
     let a : ℤ = amount job row in
     let side : Side = side_of a in
@@ -208,17 +227,21 @@ adds_kept jobs rows amount words views id job earlier reached row small below is
     let v : View = Worker (job ∷ earlier) reached in
     let w : View = Worker (job ∷ earlier) (row + 1) in
     let x : ℕ = slice_index words i in
-    let grown : (other : Side) (row' : ℕ) → nat_sum_over (added_in (brings jobs amount other row') row') (set views id w) ≡ nat_sum_over (added_in (brings jobs amount other row') row') views + gain a row other row' =
+    let grown : (other : Side) (row' : ℕ) → nat_sum_over (added_in (brings jobs amount other row') row') (set views id w)
+    ≡ nat_sum_over (added_in (brings jobs amount other row') row') views + gain a row other row' =
     (λ other row'.
     let f : ℕ → ℕ = brings jobs amount other row' in
     let s = sum_set (added_in f row') views id v w at in
     let b = brought_grown jobs amount other row row' reached job earlier is_job after between in
     omega (arith, s, b)) in
-    let claimed : (n : ℕ) → nat_sum_over (λ u. times n (numbers_of u)) (set views id w) ≡ cond (ltb n (slice_index words 0)) 1 0 = (λ n. let s = sum_set (λ u. times n (numbers_of u)) views id v w at in let b = k.claimed n in omega (arith, s, b)) in
+    let claimed : (n : ℕ) → nat_sum_over (λ u. times n (numbers_of u)) (set views id w)
+    ≡ cond (ltb n (slice_index words 0)) 1 0 = (λ n. let s = sum_set (λ u. times n (numbers_of u)) views id v w at in let b = k.claimed n in omega
+    (arith, s, b)) in
     let bound = added_small jobs amount side row (slice_index words 0) (set views id w) claimed in
     let here = grown side row in
     let gained : gain a row side row ≡ unsigned_abs a = gain_here a row side ∙ own_size a in
-    let fits : x + unsigned_abs a < 18446744073709551616 = (let s = small.sizes row below in let c = k.sums side row below in omega (arith, bound, here, gained, s, c)) in
+    let fits : x + unsigned_abs a < 18446744073709551616 = (let s = small.sizes row below in let c = k.sums side row below in omega
+    (arith, bound, here, gained, s, c)) in
     let new : ℕ = (x + unsigned_abs a) % 18446744073709551616 in
     let new_is : new ≡ x + size_at side a = mod-eq_of_lt fits ∙ ap (λ g. x + g) (sym (own_size a)) in
     let first : slice_index (set words i new) 0 ≡ slice_index words 0 = word_other words i 0 new (λ e. word_not_zero side row (sym e)) in
@@ -229,7 +252,8 @@ adds_kept jobs rows amount words views id job earlier reached row small below is
       unjoined = (let s = sum_set unjoined_of views id v w at in let b = sum_set worker_count views id v w at in omega (arith, s, b, k.unjoined));
       past = rw first (let s = sum_set (λ u. past_jobs jobs (numbers_of u)) views id v w at in omega (arith, s, k.past));
       fits = All-set (ViewFits jobs) views id w (let f = fits_at jobs views id v k.fits at in record { past = f.past; made = f.made }) k.fits;
-      sums = λ other row' here'. words_grown words row row' rows new a other k.count below new_is ∙ ap (λ t. t + gain a row other row') (k.sums other row' here') ∙ sym (grown other row');
+      sums = λ other row' here'. words_grown words row row' rows new a other k.count below new_is
+          ∙ ap (λ t. t + gain a row other row') (k.sums other row' here') ∙ sym (grown other row');
     }
 
 -- ---- split
@@ -247,10 +271,13 @@ splits_kept jobs rows amount words views id numbers made unjoined few k at =
       count = k.count;
       claimed = λ n. let f : View → ℕ = λ z. times n (numbers_of z) in let a = sum f in let b = was f in let c = k.claimed n in omega (arith, a, b, c);
       owner = (let a = sum owner_count in let b = was owner_count in omega (arith, a, b, k.owner));
-      unjoined = (let a = sum unjoined_of in let b = was unjoined_of in let c = sum worker_count in let d = was worker_count in omega (arith, a, b, c, d, k.unjoined));
+      unjoined = (let a = sum unjoined_of in let b = was unjoined_of in let c = sum worker_count in let d = was worker_count in omega
+          (arith, a, b, c, d, k.unjoined));
       past = (let f : View → ℕ = λ z. past_jobs jobs (numbers_of z) in let a = sum f in let b = was f in omega (arith, a, b, k.past));
-      fits = All-push (ViewFits jobs) (set views id w) u (All-set (ViewFits jobs) views id w (record { past = omega (arith, fit.past); made = omega (arith, few) }) k.fits) (record { past = omega arith; made = omega arith });
-      sums = λ side row here. let f : View → ℕ = added_in (brings jobs amount side row) row in let a = sum f in let b = was f in let c = k.sums side row here in omega (arith, a, b, c);
+      fits = All-push (ViewFits jobs) (set views id w) u (All-set (ViewFits jobs) views id w
+          (record { past = omega (arith, fit.past); made = omega (arith, few) }) k.fits) (record { past = omega arith; made = omega arith });
+      sums = λ side row here. let f : View → ℕ = added_in (brings jobs amount side row) row in let a = sum f in let b = was f in let c = k.sums side row
+          here in omega (arith, a, b, c);
     }
 
 -- ---- join
@@ -262,12 +289,14 @@ not_owner Spent e = refl
 
 pub all_out : (jobs rows : ℕ) (amount : ℕ → ℕ → ℤ) (words : List ℕ) (views : List View) (id : ℕ) (numbers : List ℕ) (made unjoined : ℕ)
     → AreWordsKept jobs rows amount words views → get_elem? views id ≡ some (Owner numbers made unjoined) → nat_sum_over worker_count views ≡ unjoined
-all_out jobs rows amount words views id numbers made unjoined k at = sym k.unjoined ∙ sum_only unjoined_of owner_count views id (Owner numbers made unjoined) at not_owner (sym k.owner)
+all_out jobs rows amount words views id numbers made unjoined k at = sym k.unjoined
+    ∙ sum_only unjoined_of owner_count views id (Owner numbers made unjoined) at not_owner (sym k.owner)
 
 pub owner_no_worker : (numbers : List ℕ) (made unjoined : ℕ) (ns : List ℕ) (reached : ℕ) → Owner numbers made unjoined ≢ Worker ns reached
 owner_no_worker numbers made unjoined ns reached same = let e = ap owner_count same in absurd (omega (arith, e))
 
-pub joins_kept : (jobs rows : ℕ) (amount : ℕ → ℕ → ℤ) (words : List ℕ) (views : List View) (id : ℕ) (numbers : List ℕ) (made unjoined : ℕ) (other : ℕ) (ns : List ℕ) (reached : ℕ)
+pub joins_kept : (jobs rows : ℕ) (amount : ℕ → ℕ → ℤ) (words : List ℕ) (views : List View) (id : ℕ) (numbers : List ℕ) (made unjoined : ℕ) (other : ℕ)
+    (ns : List ℕ) (reached : ℕ)
     → LastIsComplete jobs rows amount reached ns → AreWordsKept jobs rows amount words views → get_elem? views id ≡ some (Owner numbers made unjoined)
     → get_elem? views other ≡ some (Worker ns reached)
     → AreWordsKept jobs rows amount words (set (set views id (Owner (ns ++ numbers) made (unjoined - 1))) other Spent)
@@ -280,16 +309,24 @@ joins_kept jobs rows amount words views id numbers made unjoined other ns reache
     let one = sum_set {A = View} in
     let fit = fits_at jobs views id v k.fits at in
     let other_fit = fits_at jobs views other w k.fits was in
-    let some_out : 1 ≤ unjoined = (let h = sum_has worker_count views other w was in let o = all_out jobs rows amount words views id numbers made unjoined k at in omega (arith, h, o)) in
+    let some_out : 1 ≤ unjoined = (let h = sum_has worker_count views other w was in let o = all_out jobs rows amount words views id numbers made unjoined k
+    at in omega (arith, h, o)) in
     let first = (λ (f : View → ℕ). sum_set f views id v b at) in
     let second = (λ (f : View → ℕ). sum_set f (set views id b) other w Spent there) in
     record {
       count = k.count;
-      claimed = λ n. let f : View → ℕ = λ z. times n (numbers_of z) in let x = first f in let y = second f in let z = k.claimed n in let t = times-append n ns numbers in omega (arith, x, y, z, t);
+      claimed = λ n. let f : View → ℕ = λ z. times n (numbers_of z) in let x = first f in let y = second f in let z = k.claimed n in let t = times-append n ns
+          numbers in omega (arith, x, y, z, t);
       owner = (let x = first owner_count in let y = second owner_count in omega (arith, x, y, k.owner));
-      unjoined = (let x = first unjoined_of in let y = second unjoined_of in let x' = first worker_count in let y' = second worker_count in omega (arith, x, y, x', y', k.unjoined, some_out));
-      past = (let f : View → ℕ = λ z. past_jobs jobs (numbers_of z) in let x = first f in let y = second f in let t = past-append jobs ns numbers in omega (arith, x, y, t, k.past));
-      fits = All-set (ViewFits jobs) (set views id b) other Spent (record { past = omega arith; made = omega arith }) (All-set (ViewFits jobs) views id b (record { past = (let t = past-append jobs ns numbers in omega (arith, t, fit.past, other_fit.past, some_out)); made = fit.made }) k.fits);
+      unjoined = (let x = first unjoined_of in let y = second unjoined_of in let x' = first worker_count in let y' = second worker_count in omega
+          (arith, x, y, x', y', k.unjoined, some_out));
+      past = (let f : View → ℕ = λ z. past_jobs jobs (numbers_of z) in let x = first f in let y = second f in let t = past-append jobs ns numbers in omega
+          (arith, x, y, t, k.past));
+      fits = All-set (ViewFits jobs) (set views id b) other Spent (record { past = omega arith; made = omega arith })
+          (All-set (ViewFits jobs) views id b (record {
+            past = (let t = past-append jobs ns numbers in omega (arith, t, fit.past, other_fit.past, some_out));
+            made = fit.made;
+          }) k.fits);
       sums = λ side row here.
           let g : ℕ → ℕ = brings jobs amount side row in
           let f : View → ℕ = added_in g row in
@@ -302,7 +339,8 @@ joins_kept jobs rows amount words views id numbers made unjoined other ns reache
     }
 
 -- ---- the amount of a job at a row, and its word
-pub amount_small : (jobs rows : ℕ) (amount : ℕ → ℕ → ℤ) (job row : ℕ) → AreSmall jobs rows amount → job < jobs → row < rows → unsigned_abs (amount job row) < 2 ^ 62
+pub amount_small : (jobs rows : ℕ) (amount : ℕ → ℕ → ℤ) (job row : ℕ) → AreSmall jobs rows amount → job < jobs → row < rows → unsigned_abs (amount job row) < 2
+    ^ 62
 amount_small jobs rows amount job row small is_job below =
     let a = at_most_sum (λ j. unsigned_abs (amount j row)) 0 jobs job (omega arith) (omega (arith, is_job)) in
     let b = small.sizes row below in

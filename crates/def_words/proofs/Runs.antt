@@ -47,13 +47,17 @@ pub step_keeps : (jobs rows : ℕ) (amount : ℕ → ℕ → ℤ) (before : Word
     → AreSmall jobs rows amount → AreWordsKept jobs rows amount before.words before.views
     → OneStepLeads jobs rows amount before step after → AreWordsKept jobs rows amount after.words after.views
 step_keeps jobs rows amount before (claim seat) after small kept s =
-    kept_at jobs rows amount after _ _ s.words s.views (claims_kept jobs rows amount before.words before.views seat s.numbers s.reached small s.below s.complete kept s.worker)
+    kept_at jobs rows amount after _ _ s.words s.views (claims_kept jobs rows amount before.words before.views seat s.numbers s.reached small s.below s.complete
+    kept s.worker)
 step_keeps jobs rows amount before (add seat row) after small kept s =
-    kept_at jobs rows amount after _ _ s.words s.views (adds_kept jobs rows amount before.words before.views seat s.job s.earlier s.reached row small s.is_row s.is_job s.from_reached s.between kept s.worker)
+    kept_at jobs rows amount after _ _ s.words s.views (adds_kept jobs rows amount before.words before.views seat s.job s.earlier s.reached row small s.is_row
+    s.is_job s.from_reached s.between kept s.worker)
 step_keeps jobs rows amount before (split seat) after small kept s =
-    kept_at jobs rows amount after _ _ s.words s.views (splits_kept jobs rows amount before.words before.views seat s.numbers s.made s.unjoined s.few kept s.owner)
+    kept_at jobs rows amount after _ _ s.words s.views (splits_kept jobs rows amount before.words before.views seat s.numbers s.made s.unjoined s.few kept
+    s.owner)
 step_keeps jobs rows amount before (join seat other) after small kept s =
-    kept_at jobs rows amount after _ _ s.words s.views (joins_kept jobs rows amount before.words before.views seat s.numbers s.made s.unjoined other s.worker_numbers s.reached s.complete kept s.owner s.worker)
+    kept_at jobs rows amount after _ _ s.words s.views (joins_kept jobs rows amount before.words before.views seat s.numbers s.made s.unjoined other
+    s.worker_numbers s.reached s.complete kept s.owner s.worker)
 step_keeps jobs rows amount before (close seat) after small kept s = subst (λ (t : WordState). AreWordsKept jobs rows amount t.words t.views) (sym s.same) kept
 
 pub steps_keep : StepsKeepTheRule
@@ -67,13 +71,18 @@ reached_kept jobs rows amount state small (after_step {before} step run leads) =
     step_keeps jobs rows amount before step state small (reached_kept jobs rows amount before small run) leads
 
 -- and what it says of single views
-pub kept_is_stated : (jobs rows : ℕ) (amount : ℕ → ℕ → ℤ) (state : WordState) → AreWordsKept jobs rows amount state.words state.views → Stated jobs rows amount state
+pub kept_is_stated : (jobs rows : ℕ) (amount : ℕ → ℕ → ℤ) (state : WordState) → AreWordsKept jobs rows amount state.words state.views
+    → Stated jobs rows amount state
 kept_is_stated jobs rows amount state k = record {
   once = λ n. times_in_all n state.views ∙ k.claimed n;
   few_claims = claims_few jobs rows amount state.words state.views k;
   owner = λ seat numbers made unjoined at.
       let fit = fits_at jobs state.views seat (Owner numbers made unjoined) k.fits at in
-      record { few = omega (arith, fit.made); past = omega (arith, fit.past); unjoined_are = all_out jobs rows amount state.words state.views seat numbers made unjoined k at };
+      record {
+        few = omega (arith, fit.made);
+        past = omega (arith, fit.past);
+        unjoined_are = all_out jobs rows amount state.words state.views seat numbers made unjoined k at;
+      };
   worker = λ seat numbers reached at. let fit = fits_at jobs state.views seat (Worker numbers reached) k.fits at in omega (arith, fit.past);
   rows_are = k.sums;
 }
@@ -84,7 +93,8 @@ rule_holds jobs rows amount state small run = kept_is_stated jobs rows amount st
 pub close_with_sums : ClosesWithSums
 close_with_sums jobs rows amount before seat after small run s =
     let kept = step_keeps jobs rows amount before (close seat) after small (reached_kept jobs rows amount before small run) s in
-    let at : get_elem? after.views seat ≡ some (Owner s.numbers s.made 0) = subst (λ (t : WordState). get_elem? t.views seat ≡ some (Owner s.numbers s.made 0)) (sym s.same) s.owner in
+    let at : get_elem? after.views seat ≡ some (Owner s.numbers s.made 0) = subst (λ (t : WordState). get_elem? t.views seat ≡ some (Owner s.numbers s.made 0))
+    (sym s.same) s.owner in
     let past = s.past in
     let there = times_from_Contains past.0 s.numbers past.1 in
     let claimed = all_claimed jobs rows amount after.words after.views seat s.numbers s.made kept at in

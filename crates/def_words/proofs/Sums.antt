@@ -36,7 +36,8 @@ sum_none f g (x ∷ xs) idle none =
     let there : nat_sum_over f xs ≡ 0 = sum_none f g xs idle (omega arith) in
     omega arith
 
-pub sum_only : {A : Type 0} (f g : A → ℕ) (xs : List A) (i : ℕ) (x : A) → get_elem? xs i ≡ some x → ((x : A) → g x ≡ 0 → f x ≡ 0) → g x ≡ nat_sum_over g xs → nat_sum_over f xs ≡ f x
+pub sum_only : {A : Type 0} (f g : A → ℕ) (xs : List A) (i : ℕ) (x : A) → get_elem? xs i ≡ some x → ((x : A) → g x ≡ 0 → f x ≡ 0) → g x ≡ nat_sum_over g xs
+    → nat_sum_over f xs ≡ f x
 sum_only f g [] i x e idle all = absurd (some-ne-none x (sym e))
 sum_only f g (z ∷ zs) zero x e idle all =
     let same : f z ≡ f x = ap f (some-injective z x e) in

@@ -1,5 +1,6 @@
 -- What the numbers that were claimed bring to the rows.
-use Rattle.std.specs.Prelude.{◌≡◌, ℕ, ◌+◌, ◌-◌, ◌*◌, ◌/◌, ◌^◌, ◌<◌, ◌≤◌, nat_lt, if◌then◌else◌, ℤ, pos, negsuc, unsigned_abs, List, [], ◌∷◌}
+use Rattle.std.specs.Prelude.{◌≡◌, ℕ, ◌+◌, ◌-◌, ◌*◌, ◌/◌, ◌^◌, ◌<◌, ◌≤◌, nat_lt, if◌then◌else◌, ℤ, pos, negsuc}
+use Rattle.std.specs.Prelude.{unsigned_abs, List, [], ◌∷◌}
 use Rattle.def_sums.specs.Sum.{nat_sum_over}
 use Rattle.def_history.specs.History.{job_numbers}
 use Rattle.def_words.specs.declared.view.View.{View}
@@ -34,8 +35,8 @@ row_of word = (word - 1) / 2
 abbrev pub brings : ℕ → (ℕ → ℕ → ℤ) → Side → ℕ → ℕ → ℕ
 brings jobs amount side row n = if nat_lt n jobs then size_at side (amount n row) else 0
 
--- what a worker's numbers have brought to a row: all but the last one all of it, and the last one where the row is below
--- the one that is reached
+-- what a worker's numbers have brought to a row: all but the last one all of it, and the last one where the row is
+-- below the one that is reached
 abbrev pub brought_so_far : (ℕ → ℕ) → ℕ → ℕ → List ℕ → ℕ
 brought_so_far f row reached [] = 0
 brought_so_far f row reached (n ∷ ns) = (if nat_lt row reached then f n else 0) + nat_sum_over f ns

@@ -1,16 +1,18 @@
--- What steps on the words are in the core of draws and additions, with one stripe and a pass for each seat: the jobs from
--- the claim word on are in the bag, and a worker holds the right of its last job while that isn't complete.
+-- What steps on the words are in the core of draws and additions, with one stripe and a pass for each seat: the jobs
+-- from the claim word on are in the bag, and a worker holds the right of its last job while that isn't complete.
 use Rattle.std.specs.Prelude.{◌≡◌, ℕ, zero, suc, ◌+◌, ◌-◌, ◌≤◌, ◌&&◌, ◌||◌, nat_lt, nat_le, if◌then◌else◌, Bool, true}
 use Rattle.std.specs.Prelude.{false, ℤ, pos, negsuc, List, [], ◌∷◌, length, slice_index, slice_index_or}
 use Rattle.std.specs.List.{range_with_len}
 use Rattle.def_history.specs.Core.{Right, StepsLead, rights_of, stripe_count, draw, add as core_add}
-use Rattle.def_history.specs.Core.{State as CoreState, Step as CoreStep, IsReached as IsReachedInCore, rights_held as rights_of_pass}
+use Rattle.def_history.specs.Core.{State as CoreState, Step as CoreStep, IsReached as IsReachedInCore}
+use Rattle.def_history.specs.Core.{rights_held as rights_of_pass}
 use Rattle.def_history.specs.Laws.{IsAtEnd}
 use Rattle.def_words.specs.declared.view.View.{View}
 use Rattle.def_words.specs.declared.view.View.TheVariants.{Owner, Worker, Spent}
 use Rattle.def_words.specs.Amounts.{AreSmall}
 use Rattle.def_words.specs.Rule.{AreWordsKept}
-use Rattle.def_words.specs.Steps.{WordState, WordStep, claim, add, split, join, close, Closes, OneStepLeads, AreWordsReached}
+use Rattle.def_words.specs.Steps.{WordState, WordStep, claim, add, split, join, close, Closes, OneStepLeads}
+use Rattle.def_words.specs.Steps.{AreWordsReached}
 
 abbrev pub is_some_amount : ℤ → Bool
 is_some_amount (pos zero) = false
@@ -20,7 +22,8 @@ is_some_amount (negsuc n) = true
 -- a job has an amount that isn't 0 at a row from one on, among the first rows
 abbrev pub has_left : (ℕ → ℕ → ℤ) → ℕ → ℕ → ℕ → Bool
 has_left amount reached job zero = false
-has_left amount reached job (suc row) = (nat_le reached row && is_some_amount (amount job row)) || has_left amount reached job row
+has_left amount reached job (suc row) = (nat_le reached row && is_some_amount (amount job row))
+    || has_left amount reached job row
 
 -- the jobs that nobody claimed
 abbrev pub unclaimed : ℕ → ℕ → List ℕ
@@ -72,11 +75,13 @@ module _ (jobs rows : ℕ) (amount : ℕ → ℕ → ℤ) where
 
 -- each step on the words leads the core by these steps to the state that shows after it
 abbrev pub StepsAreCoreSteps : Type 0
-StepsAreCoreSteps = (jobs rows : ℕ) (amount : ℕ → ℕ → ℤ) (before : WordState) (step : WordStep) (after : WordState) (core : CoreState)
+StepsAreCoreSteps = (jobs rows : ℕ) (amount : ℕ → ℕ → ℤ) (before : WordState) (step : WordStep) (after : WordState)
+    (core : CoreState)
     → AreSmall jobs rows amount → AreWordsKept jobs rows amount before.words before.views
     → OneStepLeads jobs rows amount before step after
     → Shows jobs rows amount before core → length after.views ≤ length core.passes
-    → (next : CoreState) × StepsLead core (core_steps jobs rows amount before step) next × Shows jobs rows amount after next
+    → (next : CoreState) × StepsLead core (core_steps jobs rows amount before step) next
+    × Shows jobs rows amount after next
 
 -- so whatever steps were taken on the words, steps of the core lead from an opening to the state that shows
 abbrev pub RunsAreCoreRuns : Type 0
@@ -86,6 +91,7 @@ RunsAreCoreRuns = (jobs rows : ℕ) (amount : ℕ → ℕ → ℤ) (state : Word
 
 -- and where the owner can close, the core is at its end
 abbrev pub ClosesAtTheEnd : Type 0
-ClosesAtTheEnd = (jobs rows : ℕ) (amount : ℕ → ℕ → ℤ) (before : WordState) (seat : ℕ) (after : WordState) (core : CoreState)
+ClosesAtTheEnd = (jobs rows : ℕ) (amount : ℕ → ℕ → ℤ) (before : WordState) (seat : ℕ) (after : WordState)
+    (core : CoreState)
     → AreSmall jobs rows amount → AreWordsReached jobs rows amount before → Closes jobs rows amount before seat after
     → Shows jobs rows amount after core → IsAtEnd core

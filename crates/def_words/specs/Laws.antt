@@ -1,5 +1,6 @@
 -- The laws of the rule, in words of single views.
-use Rattle.std.specs.Prelude.{◌≡◌, ℕ, ◌+◌, ◌-◌, ◌<◌, ◌≤◌, nat_lt, if◌then◌else◌, ℤ, pos, ◌+ℤ◌, List, [], ◌∷◌, ◌++◌, slice_index}
+use Rattle.std.specs.Prelude.{◌≡◌, ℕ, ◌+◌, ◌-◌, ◌<◌, ◌≤◌, nat_lt, if◌then◌else◌, ℤ, pos, ◌+ℤ◌, List, [], ◌∷◌, ◌++◌}
+use Rattle.std.specs.Prelude.{slice_index}
 use Rattle.def_sums.specs.Sum.{nat_sum_over}
 use Rattle.def_sums.specs.Limits.{most_workers}
 use Rattle.def_history.specs.History.{times, sum_over_jobs}
@@ -30,8 +31,9 @@ pub record OwnerFits (jobs : ℕ) (views : List View) (numbers : List ℕ) (made
   pub past : past_jobs jobs numbers ≤ made - unjoined
   pub unjoined_are : nat_sum_over worker_count views ≡ unjoined
 
--- what the rule says: each number below the claim word stands once in the lists, and no other; no claim wraps; the owner's
--- view fits, a worker has at most one number past the jobs; and each row's word is the sum of what is added there
+-- what the rule says: each number below the claim word stands once in the lists, and no other; no claim wraps; the
+-- owner's view fits, a worker has at most one number past the jobs; and each row's word is the sum of what is added
+-- there
 pub record Stated (jobs rows : ℕ) (amount : ℕ → ℕ → ℤ) (state : WordState) : Type 0 where
   pub once : (n : ℕ) → times n (all_numbers state.views) ≡ (if nat_lt n (slice_index state.words 0) then 1 else 0)
   pub few_claims : slice_index state.words 0 ≤ jobs + most_workers
@@ -40,7 +42,8 @@ pub record Stated (jobs rows : ℕ) (amount : ℕ → ℕ → ℤ) (state : Word
   pub worker : (seat : ℕ) (numbers : List ℕ) (reached : ℕ) → Knows state seat (Worker numbers reached)
       → past_jobs jobs numbers ≤ 1
   pub rows_are : (side : Side) (row : ℕ) → row < rows
-      → slice_index state.words (word_at side row) ≡ nat_sum_over (added_in (brings jobs amount side row) row) state.views
+      → slice_index state.words (word_at side row) ≡ nat_sum_over (added_in (brings jobs amount side row) row)
+      state.views
 
 -- whatever steps were taken
 abbrev pub TheRuleHolds : Type 0
@@ -52,7 +55,8 @@ pub record TellsSums (jobs rows : ℕ) (amount : ℕ → ℕ → ℤ) (state : W
   pub all_claimed : (n : ℕ) → times n numbers ≡ (if nat_lt n (slice_index state.words 0) then 1 else 0)
   pub all_jobs : jobs < slice_index state.words 0
   pub sums : (row : ℕ) → row < rows
-      → pos (slice_index state.words (word_at positive row)) ≡ sum_over_jobs amount jobs row +ℤ pos (slice_index state.words (word_at negative row))
+      → pos (slice_index state.words (word_at positive row)) ≡ sum_over_jobs amount jobs row
+      +ℤ pos (slice_index state.words (word_at negative row))
 
 abbrev pub ClosesWithSums : Type 0
 ClosesWithSums = (jobs rows : ℕ) (amount : ℕ → ℕ → ℤ) (before : WordState) (seat : ℕ) (after : WordState)

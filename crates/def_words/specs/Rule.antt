@@ -1,5 +1,6 @@
 -- The rule over the words and the views of all seats. Word 0 is the claim word.
-use Rattle.std.specs.Prelude.{◌≡◌, ℕ, ◌+◌, ◌-◌, ◌*◌, ◌<◌, ◌≤◌, nat_lt, nat_le, if◌then◌else◌, ℤ, List, All, length, slice_index, count_by}
+use Rattle.std.specs.Prelude.{◌≡◌, ℕ, ◌+◌, ◌-◌, ◌*◌, ◌<◌, ◌≤◌, nat_lt, nat_le, if◌then◌else◌, ℤ, List, All, length}
+use Rattle.std.specs.Prelude.{slice_index, count_by}
 use Rattle.def_sums.specs.Sum.{nat_sum_over}
 use Rattle.def_sums.specs.Limits.{most_workers}
 use Rattle.def_history.specs.History.{times}

@@ -51,7 +51,8 @@ module _ (jobs rows : ℕ) (amount : ℕ → ℕ → ℤ) where
     pub some_amount : amount job row ≢ pos 0
     pub from_reached : reached ≤ row
     pub between : (r : ℕ) → reached ≤ r → r < row → amount job r ≡ pos 0
-    pub words : after.words ≡ with_more before.words (word_at (side_of (amount job row)) row) (unsigned_abs (amount job row))
+    pub words : after.words ≡ with_more before.words (word_at (side_of (amount job row)) row)
+        (unsigned_abs (amount job row))
     pub views : after.views ≡ slice_set before.views seat (Worker (job ∷ earlier) (row + 1))
 
   -- the owner makes a worker with an empty list, the last seat now
@@ -75,7 +76,8 @@ module _ (jobs rows : ℕ) (amount : ℕ → ℕ → ℤ) where
     pub worker : Knows before other (Worker worker_numbers reached)
     pub complete : LastIsComplete jobs rows amount reached worker_numbers
     pub words : after.words ≡ before.words
-    pub views : after.views ≡ slice_set (slice_set before.views seat (Owner (worker_numbers ++ numbers) made (unjoined - 1))) other Spent
+    pub views : after.views ≡ slice_set (slice_set before.views seat
+        (Owner (worker_numbers ++ numbers) made (unjoined - 1))) other Spent
 
   -- the owner, with no worker left to join and a number past the jobs, ends the run: nothing changes
   pub record Closes (before : WordState) (seat : ℕ) (after : WordState) : Type 0 where

@@ -140,8 +140,8 @@ fn a_sink_in_memory_goes_on_after_a_fault(rt: HostRuntime) -> Result<(), Fail> {
     Ok(())
 }
 
-/// Whether a file of this name that the system writes is read as what was written, and refused where it is too long. The
-/// file is gone after it.
+/// Whether a file of this name that the system writes is read as what was written, and refused where it is too long.
+/// The file is gone after it.
 fn reads_back(rt: &HostRuntime, name: &str) -> Result<bool, Fail> {
     let content = vec![in rt.alloc(); 7u8; 200_000]?;
     fs::write(rt, name, content.as_slice())?;

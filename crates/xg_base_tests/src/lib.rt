@@ -1,6 +1,6 @@
 #![tactic(auto)]
-//! The tests of the lowest crates: numbers, tokens, the outside, pages and entries. They stand apart from these, since a
-//! crate with tests is proved twice.
+//! The tests of the lowest crates: numbers, tokens, the outside, pages and entries. They stand apart from these, since
+//! a crate with tests is proved twice.
 
 #[cfg(test)]
 mod frac_tests;

@@ -143,8 +143,8 @@ impl OpenFile for Source {
     }
 }
 
-/// The adapter over a system with one file. It counts the opens and the faults too, and its type says that these are the
-/// adapter's own counts, which no call tells.
+/// The adapter over a system with one file. It counts the opens and the faults too, and its type says that these are
+/// the adapter's own counts, which no call tells.
 #[derive(Drop)]
 struct CountedFiles {
     files: RealFiles<OneFile>,

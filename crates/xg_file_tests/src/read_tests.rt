@@ -373,7 +373,8 @@ fn accepted(rt: HostRuntime) -> Result<(), Fail> {
 }
 
 const NAMED: &[u8] =
-    b"EFG 2 R \"a\\\"b\\c\\\\\\\"\" { \"\\\"\" \"\" } \"said\"\np \"top\" 1 8 { \"x\" \"y\" } 3 { 1/2 -1/2 }\nc \"\" 5 \"coin\" { \"h\" 2/3 \"t\" 1/3 } 0\nt \"\" 1 { 1 -1 } t \"\" 0\nc \"\" 5 0 t \"\" 1 \"win\" t \"low\" 3";
+    b"EFG 2 R \"a\\\"b\\c\\\\\\\"\" { \"\\\"\" \"\" } \"said\"\np \"top\" 1 8 { \"x\" \"y\" } 3 { 1/2 -1/2 }\nc \"\" 5
+        \"coin\" { \"h\" 2/3 \"t\" 1/3 } 0\nt \"\" 1 { 1 -1 } t \"\" 0\nc \"\" 5 0 t \"\" 1 \"win\" t \"low\" 3";
 
 fn is_named_game(game: &Game) -> bool {
     game.title() == b"a\"b\\c\\\\\"".as_slice()

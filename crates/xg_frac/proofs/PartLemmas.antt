@@ -1,5 +1,6 @@
 -- Which parts make a fraction.
-use Rattle.std.proofs.Common.{◌≡◌, ℕ, ◌/◌, ◌^◌, ◌<◌, ◌≤◌, Bool, true, ◌*◌, ℤ, pos, ◌+ℤ◌, ◌*ℤ◌, ◌≤ℤ◌, to_z, of_z, FitsSigned, unsigned_abs, refl, sym, ap, ◌∙◌, subst, Option, Some, None, Result, ◌⊎◌, ⊎_elim, arith}
+use Rattle.std.proofs.Common.{◌≡◌, ℕ, ◌/◌, ◌^◌, ◌<◌, ◌≤◌, Bool, true, ◌*◌, ℤ, pos, ◌+ℤ◌, ◌*ℤ◌, ◌≤ℤ◌, to_z, of_z, FitsSigned, unsigned_abs, refl, sym, ap, ◌∙◌}
+use Rattle.std.proofs.Common.{subst, Option, Some, None, Result, ◌⊎◌, ⊎_elim, arith}
 use Rattle.std.specs.Prelude.{IsTrue, nat_le, SomeIff, OkIff, negsuc}
 use Rattle.std.specs.Option.{ok_or}
 use lib.Signed.{lt_z}
@@ -58,7 +59,8 @@ pub view-from_divisor : (negative : Bool) (n d g : ℕ) (z k : ℤ) → g ≡ gc
     → k ≡ pos (d / g) → fraction_from z k ≡ fraction_of (signed negative n) d
 view-from_divisor negative n d g z k e za ka =
     let make : ℤ → ℕ → Fraction = λ m x. record { num = m; den = x } in
-    ap (λ m. make m (unsigned_abs k)) za ∙ ap (λ x. make (signed negative (n / g)) (unsigned_abs x)) ka ∙ ap (λ x. make (signed negative (n / x)) (d / x)) e ∙ sym (fraction_of-signed negative n d)
+    ap (λ m. make m (unsigned_abs k)) za ∙ ap (λ x. make (signed negative (n / g)) (unsigned_abs x)) ka ∙ ap (λ x. make (signed negative (n / x)) (d / x)) e
+    ∙ sym (fraction_of-signed negative n d)
 
 -- where a part over the common divisor is past the limit, the fraction doesn't fit
 pub over_limit : (negative : Bool) (n d g : ℕ) → g ≡ gcd n d → (2 ^ 62 < n / g) ⊎ (2 ^ 62 < d / g)
@@ -113,7 +115,8 @@ fits_mul x y p q = fits_signed_mul w128 x y (2 ^ 62) (2 ^ 62) p q (omega arith)
 pub product-value : (x y : ℤ) → unsigned_abs x ≤ 2 ^ 62 → unsigned_abs y ≤ 2 ^ 62 → FitsSigned w128 x
     → FitsSigned w128 y → to_z w128 (of_z w128 (to_z w128 (of_z w128 x) *ℤ to_z w128 (of_z w128 y))) ≡ x *ℤ y
 product-value x y p q fx fy =
-    ap (λ m. to_z w128 (of_z w128 (m *ℤ to_z w128 (of_z w128 y)))) (to_z-of_z w128 x fx) ∙ ap (λ m. to_z w128 (of_z w128 (x *ℤ m))) (to_z-of_z w128 y fy) ∙ to_z-of_z w128 (x *ℤ y) (fits_mul x y p q)
+    ap (λ m. to_z w128 (of_z w128 (m *ℤ to_z w128 (of_z w128 y)))) (to_z-of_z w128 x fx) ∙ ap (λ m. to_z w128 (of_z w128 (x *ℤ m))) (to_z-of_z w128 y fy)
+    ∙ to_z-of_z w128 (x *ℤ y) (fits_mul x y p q)
 
 -- a product of two parts within the limit is at most 2 ^ 124
 pub product-size : (x y : ℤ) → unsigned_abs x ≤ 2 ^ 62 → unsigned_abs y ≤ 2 ^ 62 → unsigned_abs (x *ℤ y) ≤ 2 ^ 124

@@ -30,7 +30,8 @@ pub bar_failed : (before middle now : Option (List ℕ)) (f : Fraction) (num : �
     → AppendsPrefix before now (fraction_text f)
 bar_failed before middle now f num h e first p =
     subst (λ (text : List ℕ). AppendsPrefix before now text) (sym (text_with_bar f h))
-    (prefix_then before middle now (int_text f.num) (47 ∷ decimal f.den) (first ∙ ap (λ z. append_known before (int_text z)) e) (prefix_first middle now (47 ∷ []) (decimal f.den) p))
+    (prefix_then before middle now (int_text f.num) (47 ∷ decimal f.den) (first ∙ ap (λ z. append_known before (int_text z)) e)
+    (prefix_first middle now (47 ∷ []) (decimal f.den) p))
 
 -- the denominator failed
 pub den_failed : (before middle bar now : Option (List ℕ)) (f : Fraction) (num den : ℤ) → (f.den ≡ 1 → ⊥) → num ≡ f.num

@@ -1,5 +1,6 @@
 -- What reading a literal gives, by the parts that were read.
-use Rattle.std.proofs.Common.{◌≡◌, ℕ, zero, suc, ◌-◌, ◌^◌, ◌<◌, ◌≤◌, min, Bool, true, false, cond, ◌&&◌, eqb, ltb, leb, List, Option, Some, None, Result, Ok, Err, refl, sym, ap, ◌∙◌, subst, ◌⊎◌, ⊎_elim, arith}
+use Rattle.std.proofs.Common.{◌≡◌, ℕ, zero, suc, ◌-◌, ◌^◌, ◌<◌, ◌≤◌, min, Bool, true, false, cond, ◌&&◌, eqb, ltb, leb, List, Option, Some, None, Result, Ok}
+use Rattle.std.proofs.Common.{Err, refl, sym, ap, ◌∙◌, subst, ◌⊎◌, ⊎_elim, arith}
 use Rattle.std.specs.Prelude.{SomeIff, IsTrue, IfOk}
 use Rattle.std.specs.Option.{option_map, ok_or}
 use Rattle.std.proofs.lemmas.Bool.{cases_lt, lt-ltb, le-ltb, le-leb, lt-leb, ne_eqb, false_from_ne_true}
@@ -15,7 +16,8 @@ use Rattle.xg_frac.specs.Scan.{past_all, quotient_of}
 
 abbrev pub fraction_answer : Bool → ℕ → ℕ → Result Fraction NumberFault
 fraction_answer negative n d =
-    cond (eqb d 0) (Err ZeroDenominator) (cond (ltb n past_all && ltb d past_all && fits (fraction_of (signed negative n) d)) (Ok (fraction_of (signed negative n) d)) (Err Range))
+    cond (eqb d 0) (Err ZeroDenominator) (cond (ltb n past_all && ltb d past_all && fits (fraction_of (signed negative n) d))
+    (Ok (fraction_of (signed negative n) d)) (Err Range))
 
 abbrev pub answer_if : Bool → Option Quotient → Result Fraction NumberFault
 answer_if negative None = Err Form
@@ -45,7 +47,8 @@ second_false a true c e = cc
 
 tests_agree : (negative : Bool) (n d : ℕ) → ltb n past_all ≡ true → ltb d past_all ≡ true → leb n (2 ^ 127 - 1) ≡ true
     → leb d (2 ^ 127 - 1) ≡ true
-    → cond (eqb d 0) (Err ZeroDenominator) (cond (leb n (2 ^ 127 - 1) && leb d (2 ^ 127 - 1) && fits (fraction_of (signed negative n) d)) (Ok (fraction_of (signed negative n) d)) (Err Range)) ≡ fraction_answer negative n d
+    → cond (eqb d 0) (Err ZeroDenominator) (cond (leb n (2 ^ 127 - 1) && leb d (2 ^ 127 - 1) && fits (fraction_of (signed negative n) d))
+    (Ok (fraction_of (signed negative n) d)) (Err Range)) ≡ fraction_answer negative n d
 tests_agree negative n d a b p q =
     let F = fraction_of (signed negative n) d in
     let same : (leb n (2 ^ 127 - 1) && leb d (2 ^ 127 - 1) && fits F) ≡ (ltb n past_all && ltb d past_all && fits F) =
@@ -54,7 +57,8 @@ tests_agree negative n d a b p q =
 
 -- keeping one past_all the limit for all that is past_all it changes no answer
 capped_answer : (negative : Bool) (n d : ℕ)
-    → cond (eqb d 0) (Err ZeroDenominator) (cond (leb n (2 ^ 127 - 1) && leb d (2 ^ 127 - 1) && fits (fraction_of (signed negative n) d)) (Ok (fraction_of (signed negative n) d)) (Err Range)) ≡ fraction_answer negative (min n past_all) (min d past_all)
+    → cond (eqb d 0) (Err ZeroDenominator) (cond (leb n (2 ^ 127 - 1) && leb d (2 ^ 127 - 1) && fits (fraction_of (signed negative n) d))
+    (Ok (fraction_of (signed negative n) d)) (Err Range)) ≡ fraction_answer negative (min n past_all) (min d past_all)
 capped_answer negative n d =
     ⊎_elim
     (λ n_small. ⊎_elim
@@ -63,10 +67,13 @@ capped_answer negative n d =
     let same_d : min d past_all ≡ d = omega arith in
     let n_fits : n ≤ 2 ^ 127 - 1 = omega arith in
     let d_fits : d ≤ 2 ^ 127 - 1 = omega arith in
-    tests_agree negative n d (lt-ltb n past_all n_small) (lt-ltb d past_all d_small) (le-leb n (2 ^ 127 - 1) n_fits) (le-leb d (2 ^ 127 - 1) d_fits) ∙ ap (λ x. fraction_answer negative x d) (sym same_n) ∙ ap (fraction_answer negative (min n past_all)) (sym same_d))
-    (λ d_large. out d _ _ _ _ (second_false (leb n (2 ^ 127 - 1)) (leb d (2 ^ 127 - 1)) _ (lt-leb d (2 ^ 127 - 1) (omega arith))) (second_false (ltb (min n past_all) past_all) (ltb (min d past_all) past_all) _ (le-ltb (min d past_all) past_all (omega arith))))
+    tests_agree negative n d (lt-ltb n past_all n_small) (lt-ltb d past_all d_small) (le-leb n (2 ^ 127 - 1) n_fits) (le-leb d (2 ^ 127 - 1) d_fits)
+    ∙ ap (λ x. fraction_answer negative x d) (sym same_n) ∙ ap (fraction_answer negative (min n past_all)) (sym same_d))
+    (λ d_large. out d _ _ _ _ (second_false (leb n (2 ^ 127 - 1)) (leb d (2 ^ 127 - 1)) _ (lt-leb d (2 ^ 127 - 1) (omega arith)))
+    (second_false (ltb (min n past_all) past_all) (ltb (min d past_all) past_all) _ (le-ltb (min d past_all) past_all (omega arith))))
     (cases_lt d past_all))
-    (λ n_large. out d _ _ _ _ (first_false (leb n (2 ^ 127 - 1)) (leb d (2 ^ 127 - 1)) _ (lt-leb n (2 ^ 127 - 1) (omega arith))) (first_false (ltb (min n past_all) past_all) (ltb (min d past_all) past_all) _ (le-ltb (min n past_all) past_all (omega arith))))
+    (λ n_large. out d _ _ _ _ (first_false (leb n (2 ^ 127 - 1)) (leb d (2 ^ 127 - 1)) _ (lt-leb n (2 ^ 127 - 1) (omega arith)))
+    (first_false (ltb (min n past_all) past_all) (ltb (min d past_all) past_all) _ (le-ltb (min n past_all) past_all (omega arith))))
     (cases_lt n past_all)
 
 by_body : (bytes : List ℕ) (b : Option Body)
@@ -96,7 +103,8 @@ pub past_answer : (negative : Bool) (q : Quotient) → (q.den ≡ 0 → ⊥) →
     → Err Range ≡ fraction_answer negative q.num q.den
 past_answer negative q some h =
     let no : (ltb q.num past_all && ltb q.den past_all && fits (fraction_of (signed negative q.num) q.den)) ≡ false =
-    ⊎_elim (λ p. first_false (ltb q.num past_all) (ltb q.den past_all) _ (le-ltb q.num past_all p)) (λ p. second_false (ltb q.num past_all) (ltb q.den past_all) _ (le-ltb q.den past_all p)) h in
+    ⊎_elim (λ p. first_false (ltb q.num past_all) (ltb q.den past_all) _ (le-ltb q.num past_all p))
+    (λ p. second_false (ltb q.num past_all) (ltb q.den past_all) _ (le-ltb q.den past_all p)) h in
     rw (ne_eqb q.den 0 some, no) refl
 
 fit_answer : (o : Option Fraction) (f : Fraction) → SomeIff o (IsTrue (fits f)) f

@@ -1,5 +1,6 @@
 -- Reading digits from left to right.
-use Rattle.std.proofs.Common.{◌≡◌, ℕ, suc, ◌+◌, ◌-◌, ◌*◌, ◌^◌, ◌<◌, ◌≤◌, min, Bool, true, false, cond, Option, Some, None, List, [], ◌∷◌, ◌++◌, length, get_or, take, drop, refl, sym, ap, ◌∙◌, subst, ◌⊎◌, ⊎_elim, add-one, ltb, arith}
+use Rattle.std.proofs.Common.{◌≡◌, ℕ, suc, ◌+◌, ◌-◌, ◌*◌, ◌^◌, ◌<◌, ◌≤◌, min, Bool, true, false, cond, Option, Some, None, List, [], ◌∷◌, ◌++◌, length, get_or}
+use Rattle.std.proofs.Common.{take, drop, refl, sym, ap, ◌∙◌, subst, ◌⊎◌, ⊎_elim, add-one, ltb, arith}
 use Rattle.std.specs.Char.{is_ascii_digit}
 use Rattle.std.specs.Str.{all_ascii_digits}
 use Rattle.std.proofs.lemmas.Bool.{cases_lt, and_from, and_parts, lt-ltb, ltb-true, eq-eqb, ne_eqb, false_from_ne_true}
@@ -58,7 +59,8 @@ joined n d p rest m h e =
 pub capped-digit : (n m c : ℕ) (cs : List ℕ) → m ≡ min (n * 10 + (c - 48)) past_all → capped m cs ≡ capped n (c ∷ cs)
 capped-digit n m c cs e =
     let power : 10 ^ length (c ∷ cs) ≡ 10 ^ length cs * 10 = pow-suc 10 (length cs) in
-    joined n (c - 48) (10 ^ length cs) (number_of cs) m (one-le-pow (length cs) 10 (omega arith)) e ∙ ap (λ q. min (n * q + ((c - 48) * 10 ^ length cs + number_of cs)) past_all) (sym power)
+    joined n (c - 48) (10 ^ length cs) (number_of cs) m (one-le-pow (length cs) 10 (omega arith)) e
+    ∙ ap (λ q. min (n * q + ((c - 48) * 10 ^ length cs + number_of cs)) past_all) (sym power)
 
 -- ---- a text of digits alone
 
@@ -146,7 +148,8 @@ capped-append xs ys n e =
     let whole = number_of-append xs ys in
     ap (λ x. min (x * p + number_of ys) past_all) e ∙
     ⊎_elim
-    (λ small. let exact : min (number_of xs) past_all ≡ number_of xs = omega arith in ap (λ x. min (x * p + number_of ys) past_all) exact ∙ ap (λ x. min x past_all) (sym whole))
+    (λ small. let exact : min (number_of xs) past_all ≡ number_of xs = omega arith in ap (λ x. min (x * p + number_of ys) past_all) exact
+    ∙ ap (λ x. min x past_all) (sym whole))
     (λ large.
     let top : min (number_of xs) past_all ≡ past_all = omega arith in
     ap (λ x. min (x * p + number_of ys) past_all) top ∙ omega (arith, times_one past_all p h, times_one (number_of xs) p h, whole))
@@ -158,7 +161,8 @@ quotient_of-decimal : (before : List ℕ) (after : Option (List ℕ)) (power : O
 quotient_of-decimal before after power n e =
     let make : ℕ → Quotient = λ x. record { num = x; den = min (10 ^ (length (digits_after after) + lowered power - raised power)) past_all } in
     let p = 10 ^ (raised power - (length (digits_after after) + lowered power)) in
-    ap make (sym (capped_times (number_of (before ++ digits_after after)) p (one-le-pow (raised power - (length (digits_after after) + lowered power)) 10 (omega arith))) ∙ ap (λ x. min (x * p) past_all) (sym e))
+    ap make (sym (capped_times (number_of (before ++ digits_after after)) p
+    (one-le-pow (raised power - (length (digits_after after) + lowered power)) 10 (omega arith))) ∙ ap (λ x. min (x * p) past_all) (sym e))
 
 option_map-option_map : {A B C : Type 0} (f : A → B) (g : B → C) (h : A → C) → ((x : A) → g (f x) ≡ h x)
     → (o : Option A) → option_map g (option_map f o) ≡ option_map h o
@@ -178,7 +182,9 @@ pub quotient_of-decimal_of : (before : List ℕ) (after : Option (List ℕ)) (re
 unfolding decimal_of
 quotient_of-decimal_of before after rest n e =
     if_some (ltb 0 (length (before ++ digits_after after))) (option_map (decimal before after) (power_of rest)) quotient_of
-    ∙ ap (λ o. cond (ltb 0 (length (before ++ digits_after after))) o None) (option_map-option_map (decimal before after) quotient_of (decimal_quotient n (length (digits_after after))) (λ power. quotient_of-decimal before after power n e) (power_of rest))
+    ∙ ap (λ o. cond (ltb 0 (length (before ++ digits_after after))) o None)
+    (option_map-option_map (decimal before after) quotient_of (decimal_quotient n (length (digits_after after)))
+    (λ power. quotient_of-decimal before after power n e) (power_of rest))
 
 -- ---- what follows the first digits
 

@@ -7,4 +7,5 @@ use Rattle.xg_frac.specs.Wide.{AreWideParts}
 
 pub wide_parts_back : (r : Inside) → AreWideParts r.num r.den
     → record { num = r.num; den = pos (unsigned_abs r.den) } ≡ r
-wide_parts_back r h = let make : ℤ → Inside = λ d. record { num = r.num; den = d } in ap make (den_back r.den h.positive)
+wide_parts_back r h = let make : ℤ → Inside = λ d. record { num = r.num; den = d } in ap make
+    (den_back r.den h.positive)

@@ -1,7 +1,8 @@
 //! Fractions in lowest terms.
 ghost use Rattle.std.specs.Prelude.{◌≡◌, ◌/◌, ◌^◌, ◌<◌, ◌≤◌, ◌≤ℤ◌, pos, unsigned_abs, IsTrue, OkIff, SomeIff};
 ghost use Rattle.def_fraction.specs.Divisors.{gcd};
-ghost use Rattle.def_fraction.specs.Fraction.{Fraction, IsInLowestTerms, signed, fraction_of, whole_number, zero_fraction, is_zero, most, fits};
+ghost use Rattle.def_fraction.specs.Fraction.{Fraction, IsInLowestTerms, signed, fraction_of, whole_number};
+ghost use Rattle.def_fraction.specs.Fraction.{zero_fraction, is_zero, most, fits};
 
 use def_fraction::MOST_PART;
 use std::marker::Model;

@@ -11,8 +11,8 @@ ghost use Rattle.xg_frac.specs.Scan.{ScansPart, capped, quotient_of, decimal_quo
 use crate::fraction::{Frac, reduced};
 use def_fraction::{MOST_PART, MOST_WRITTEN, NumberFault};
 
-/// Reads a literal: a fraction, or a decimal with or without a point and a power of ten, with or without a sign. Leading
-/// zeros may be as many as there are. Of several faults the first in the order of `NumberFault` is the answer.
+/// Reads a literal: a fraction, or a decimal with or without a point and a power of ten, with or without a sign.
+/// Leading zeros may be as many as there are. Of several faults the first in the order of `NumberFault` is the answer.
 pub fn read_literal(bytes: &[u8]) -> Result<Frac, NumberFault>
     ensures exact { result ≡ read_as_literal bytes.now }
 
@@ -74,8 +74,8 @@ struct Signed<'a> {
     rest: &'a [u8],
 }
 
-/// The digits at the head of some bytes: the number that they write after the digits before them, how many they are, and
-/// what follows them.
+/// The digits at the head of some bytes: the number that they write after the digits before them, how many they are,
+/// and what follows them.
 #[derive(Clone, Copy)]
 struct Digits<'a> {
     number: u128,

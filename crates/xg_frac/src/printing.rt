@@ -32,8 +32,10 @@ pub fn put_ratio<O: Sink>(r: Ratio, out: &mut O) -> Result<(), WriteFault>
 
 fn put_parts<O: Sink>(num: i128, den: i128, out: &mut O) -> Result<(), WriteFault>
     requires { pos 1 ≤ℤ den }
-    ensures appended { OnOk result (O.written out.new ≡ append_known (O.written out.old) (fraction_text (fraction_from num den))) }
-    ensures prefix { OnErr result (AppendsPrefix (O.written out.old) (O.written out.new) (fraction_text (fraction_from num den))) }
+    ensures appended { OnOk result (O.written out.new ≡ append_known (O.written out.old)
+        (fraction_text (fraction_from num den))) }
+    ensures prefix { OnErr result (AppendsPrefix (O.written out.old) (O.written out.new)
+        (fraction_text (fraction_from num den))) }
     ensures cause { HasCause (O.faults out.old) (O.faults out.new) result }
 {
     put_int(num, out)?;

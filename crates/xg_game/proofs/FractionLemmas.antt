@@ -1,5 +1,6 @@
 -- The fractions of tables are in lowest terms and within the limit.
-use Rattle.std.proofs.Common.{◌≡◌, ◌-◌, ℕ, List, [], ◌∷◌, ◌++◌, map, set, slice_get, get_or, drop, Option, Result, Ok, Err, Some, sym, subst, ap, ◌∙◌, zero, suc}
+use Rattle.std.proofs.Common.{◌≡◌, ◌-◌, ℕ, List, [], ◌∷◌, ◌++◌, map, set, slice_get, get_or, drop, Option, Result, Ok, Err, Some, sym, subst, ap, ◌∙◌, zero}
+use Rattle.std.proofs.Common.{suc}
 use Rattle.std.specs.List.{All}
 use Rattle.std.specs.Result.{OnOk, OnErr}
 use Rattle.std.proofs.lemmas.List.Elements.{All-nil, All-cons, All-head, All-tail, All-push, All-take, All-drop, All-map}
@@ -17,9 +18,11 @@ pub actions_small : (names : List (List ℕ)) (chances : List Fraction) → All 
     → All (λ (a : Action). IsSmallFraction a.chance) (actions_of names chances)
 actions_small [] chances h = All-nil (λ (a : Action). IsSmallFraction a.chance)
 actions_small (name ∷ names) [] h =
-    All-cons (λ (a : Action). IsSmallFraction a.chance) (record { name = name; chance = zero_fraction }) (actions_of names []) zero_small (actions_small names [] h)
+    All-cons (λ (a : Action). IsSmallFraction a.chance) (record { name = name; chance = zero_fraction }) (actions_of names []) zero_small
+    (actions_small names [] h)
 actions_small (name ∷ names) (chance ∷ chances) h =
-    All-cons (λ (a : Action). IsSmallFraction a.chance) (record { name = name; chance = chance }) (actions_of names chances) (All-head IsSmallFraction chance chances h) (actions_small names chances (All-tail IsSmallFraction chance chances h))
+    All-cons (λ (a : Action). IsSmallFraction a.chance) (record { name = name; chance = chance }) (actions_of names chances)
+    (All-head IsSmallFraction chance chances h) (actions_small names chances (All-tail IsSmallFraction chance chances h))
 
 -- so do the actions of each set
 pub sets_small : (actions : List Action) (sets : List (ℕ × KnownSet)) → All (λ (a : Action). IsSmallFraction a.chance) actions
@@ -50,8 +53,12 @@ paid_named [] i e name at small = cc
 paid_named (x ∷ es) zero e name at small =
     let same : x ≡ e = cc in
     subst (λ (y : ℕ × KnownOutcome). HaveSmallPayoffs (map outcome_entry_of ((y.0, record y.1 { name = name }) ∷ es))) same (record {
-      one = All-cons (λ (o : OutcomeEntry). IsSmallFraction o.one) (outcome_entry_of (x.0, record x.1 { name = name })) (map outcome_entry_of es) (All-head (λ (o : OutcomeEntry). IsSmallFraction o.one) (outcome_entry_of x) (map outcome_entry_of es) small.one) (All-tail (λ (o : OutcomeEntry). IsSmallFraction o.one) (outcome_entry_of x) (map outcome_entry_of es) small.one);
-      two = All-cons (λ (o : OutcomeEntry). IsSmallFraction o.two) (outcome_entry_of (x.0, record x.1 { name = name })) (map outcome_entry_of es) (All-head (λ (o : OutcomeEntry). IsSmallFraction o.two) (outcome_entry_of x) (map outcome_entry_of es) small.two) (All-tail (λ (o : OutcomeEntry). IsSmallFraction o.two) (outcome_entry_of x) (map outcome_entry_of es) small.two);
+      one = All-cons (λ (o : OutcomeEntry). IsSmallFraction o.one) (outcome_entry_of (x.0, record x.1 { name = name })) (map outcome_entry_of es)
+          (All-head (λ (o : OutcomeEntry). IsSmallFraction o.one) (outcome_entry_of x) (map outcome_entry_of es) small.one)
+          (All-tail (λ (o : OutcomeEntry). IsSmallFraction o.one) (outcome_entry_of x) (map outcome_entry_of es) small.one);
+      two = All-cons (λ (o : OutcomeEntry). IsSmallFraction o.two) (outcome_entry_of (x.0, record x.1 { name = name })) (map outcome_entry_of es)
+          (All-head (λ (o : OutcomeEntry). IsSmallFraction o.two) (outcome_entry_of x) (map outcome_entry_of es) small.two)
+          (All-tail (λ (o : OutcomeEntry). IsSmallFraction o.two) (outcome_entry_of x) (map outcome_entry_of es) small.two);
     })
 paid_named (x ∷ es) (suc i) e name at small =
     let rest : HaveSmallPayoffs (map outcome_entry_of (set es i (e.0, record e.1 { name = name }))) = paid_named es i e name at (record {
@@ -59,8 +66,10 @@ paid_named (x ∷ es) (suc i) e name at small =
       two = All-tail (λ (o : OutcomeEntry). IsSmallFraction o.two) (outcome_entry_of x) (map outcome_entry_of es) small.two;
     }) in
     record {
-      one = All-cons (λ (o : OutcomeEntry). IsSmallFraction o.one) (outcome_entry_of x) (map outcome_entry_of (set es i (e.0, record e.1 { name = name }))) (All-head (λ (o : OutcomeEntry). IsSmallFraction o.one) (outcome_entry_of x) (map outcome_entry_of es) small.one) rest.one;
-      two = All-cons (λ (o : OutcomeEntry). IsSmallFraction o.two) (outcome_entry_of x) (map outcome_entry_of (set es i (e.0, record e.1 { name = name }))) (All-head (λ (o : OutcomeEntry). IsSmallFraction o.two) (outcome_entry_of x) (map outcome_entry_of es) small.two) rest.two;
+      one = All-cons (λ (o : OutcomeEntry). IsSmallFraction o.one) (outcome_entry_of x) (map outcome_entry_of (set es i (e.0, record e.1 { name = name })))
+          (All-head (λ (o : OutcomeEntry). IsSmallFraction o.one) (outcome_entry_of x) (map outcome_entry_of es) small.one) rest.one;
+      two = All-cons (λ (o : OutcomeEntry). IsSmallFraction o.two) (outcome_entry_of x) (map outcome_entry_of (set es i (e.0, record e.1 { name = name })))
+          (All-head (λ (o : OutcomeEntry). IsSmallFraction o.two) (outcome_entry_of x) (map outcome_entry_of es) small.two) rest.two;
     }
 
 -- or where one of them gets a name, or would
@@ -69,5 +78,6 @@ pub paid_given : {T E : Type 0} (r : Result T E) (es new : List (ℕ × KnownOut
     → slice_get es i ≡ Some e → HaveSmallPayoffs (map outcome_entry_of es)
     → OnOk r (new ≡ set es i (e.0, record e.1 { name = name })) → OnErr r (new ≡ es)
     → HaveSmallPayoffs (map outcome_entry_of new)
-paid_given (Ok x) es new i e name at small ok err = subst (λ (xs : List (ℕ × KnownOutcome)). HaveSmallPayoffs (map outcome_entry_of xs)) (sym ok) (paid_named es i e name at small)
+paid_given (Ok x) es new i e name at small ok err = subst (λ (xs : List (ℕ × KnownOutcome)). HaveSmallPayoffs (map outcome_entry_of xs)) (sym ok)
+    (paid_named es i e name at small)
 paid_given (Err x) es new i e name at small ok err = subst (λ (xs : List (ℕ × KnownOutcome)). HaveSmallPayoffs (map outcome_entry_of xs)) (sym err) small

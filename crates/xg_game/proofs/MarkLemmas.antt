@@ -1,5 +1,6 @@
 -- Marks of numbers, and one number more.
-use Rattle.std.proofs.Common.{◌≡◌, ℕ, ◌+◌, ◌<◌, ◌≤◌, Bool, true, false, not, cond, ltb, eqb, nat_eq, List, [], ◌∷◌, ◌++◌, length, position, Some, None, refl, sym, ap, ◌∙◌, subst, eq-eqb, ne_eqb, arith, add-zero, length-append}
+use Rattle.std.proofs.Common.{◌≡◌, ℕ, ◌+◌, ◌<◌, ◌≤◌, Bool, true, false, not, cond, ltb, eqb, nat_eq, List, [], ◌∷◌, ◌++◌, length, position, Some, None, refl}
+use Rattle.std.proofs.Common.{sym, ap, ◌∙◌, subst, eq-eqb, ne_eqb, arith, add-zero, length-append}
 use Rattle.std.specs.List.{position_or_len}
 use Rattle.indexmap.specs.IndexMap.{IndexMap}
 use Rattle.std.proofs.lemmas.Bool.{eqb-true, eqb-false, ltb-false, lt-ltb, le-ltb}
@@ -37,7 +38,8 @@ module _ (p : ℕ → Bool) (xs : List ℕ) (x : ℕ) where
   pub position-last : p x ≡ true → position p xs ≡ None → position p (xs ++ x ∷ []) ≡ Some (length xs)
   position-last passes none =
       let end : position_or_len p xs ≡ length xs = at_end (position_or_len p xs) (length xs) (first-le p xs) none in
-      let place : position_or_len p (xs ++ x ∷ []) ≡ length xs = pushed true (eq-eqb (position_or_len p xs) (length xs) end) ∙ ap (λ c. length xs + cond c 0 1) passes ∙ add-zero (length xs) in
+      let place : position_or_len p (xs ++ x ∷ []) ≡ length xs = pushed true (eq-eqb (position_or_len p xs) (length xs) end)
+      ∙ ap (λ c. length xs + cond c 0 1) passes ∙ add-zero (length xs) in
       seen (length xs) place ∙ ap (λ c. cond c (Some (length xs)) None) (lt-ltb (length xs) (length xs + 1) (omega arith))
 
   -- the last doesn't pass

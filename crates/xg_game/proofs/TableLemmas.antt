@@ -1,5 +1,6 @@
 -- A table's entries, seen as the content of a file has them.
-use Rattle.std.proofs.Common.{◌≡◌, ℕ, zero, suc, ◌+◌, ◌<◌, ◌≤◌, not, cond, nat_eq, nat_lt, List, [], ◌∷◌, ◌++◌, map, length, get_or, set, position, slice_get, Option, Some, None, Result, Ok, Err, refl, ap, sym, subst, ◌∙◌, arith}
+use Rattle.std.proofs.Common.{◌≡◌, ℕ, zero, suc, ◌+◌, ◌<◌, ◌≤◌, not, cond, nat_eq, nat_lt, List, [], ◌∷◌, ◌++◌, map, length, get_or, set, position, slice_get}
+use Rattle.std.proofs.Common.{Option, Some, None, Result, Ok, Err, refl, ap, sym, subst, ◌∙◌, arith}
 use Rattle.std.specs.List.{position_or_len}
 use Rattle.std.specs.Result.{OnOk, OnErr}
 use Rattle.std.specs.Map.{keys_of, values_of}
@@ -164,7 +165,8 @@ pub set_added : (all more new : List Action) (es : List (ℕ × KnownSet)) (n : 
 set_added all more new es n known within put start end =
     map-append (set_of new) es ((n, known) ∷ [])
     ∙ ap (λ (ss : List SetEntry). ss ++ set_of new (n, known) ∷ []) (ap (λ (xs : List Action). map (set_of xs) es) put ∙ sets_stay all more es within)
-    ∙ ap (λ (xs : List Action). map (set_of all) es ++ record { number = n; name = known.name; actions = xs } ∷ []) (part_behind all more new known.value.start known.value.end put start end)
+    ∙ ap (λ (xs : List Action). map (set_of all) es ++ record { number = n; name = known.name; actions = xs } ∷ [])
+    (part_behind all more new known.value.start known.value.end put start end)
 
 -- The same of outcomes.
 
@@ -199,7 +201,8 @@ outcome_named : (es : List (ℕ × KnownOutcome)) (i : ℕ) (e : ℕ × KnownOut
     ≡ set (map outcome_entry_of es) i (record (outcome_at (map outcome_entry_of es) i) { name = kept_name (outcome_at (map outcome_entry_of es) i).name given })
 outcome_named es i e given at =
     map-set outcome_entry_of es i (e.0, record e.1 { name = kept_name e.1.name given })
-    ∙ ap (λ (s : OutcomeEntry). set (map outcome_entry_of es) i (record s { name = kept_name s.name given })) (sym (seen_at outcome_entry_of es i e null_outcome at))
+    ∙ ap (λ (s : OutcomeEntry). set (map outcome_entry_of es) i (record s { name = kept_name s.name given }))
+    (sym (seen_at outcome_entry_of es i e null_outcome at))
 
 -- and in place of the outcome there
 pub outcome_renamed : (es new : List (ℕ × KnownOutcome)) (table : List OutcomeEntry) (i : ℕ) (e : ℕ × KnownOutcome)

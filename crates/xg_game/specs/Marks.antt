@@ -1,5 +1,6 @@
 -- Marks of numbers: 0, or one more than the place where the number stands.
-use Rattle.std.specs.Prelude.{◌≡◌, ◌≢◌, ℕ, ◌+◌, ◌<◌, nat_eq, if◌then◌else◌, List, position, slice_index, unwrap_or, Option, Some, None}
+use Rattle.std.specs.Prelude.{◌≡◌, ◌≢◌, ℕ, ◌+◌, ◌<◌, nat_eq, if◌then◌else◌, List, position, slice_index, unwrap_or}
+use Rattle.std.specs.Prelude.{Option, Some, None}
 use Rattle.indexmap.specs.IndexMap.{IndexMap, get}
 
 abbrev pub marked : Option ℕ → ℕ

@@ -6,7 +6,12 @@ use Rattle.xg_game.specs.declared.outcomes.PayoffPair.{PayoffPair}
 use Rattle.xg_game.specs.declared.table.Described.{Described}
 
 abbrev pub outcome_entry_of : ℕ × Described PayoffPair → OutcomeEntry
-outcome_entry_of (number, known) = record { number = number; name = known.name; one = known.value.one; two = known.value.two }
+outcome_entry_of (number, known) = record {
+  number = number;
+  name = known.name;
+  one = known.value.one;
+  two = known.value.two;
+}
 
 -- what each outcome pays is in lowest terms and within the limit
 pub record HaveSmallPayoffs (outcomes : List OutcomeEntry) : Type 0 where

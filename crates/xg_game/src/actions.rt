@@ -1,5 +1,6 @@
 //! The actions of sets, as a game keeps them.
-ghost use Rattle.std.specs.Prelude.{◌≡◌, ◌↔◌, ◌<◌, ◌≤◌, [], ◌∷◌, ◌++◌, length, slice_get, slice_index_or, All, IfOk, IsTrue, OnOk, Some};
+ghost use Rattle.std.specs.Prelude.{◌≡◌, ◌↔◌, ◌<◌, ◌≤◌, [], ◌∷◌, ◌++◌, length, slice_get, slice_index_or, All, IfOk};
+ghost use Rattle.std.specs.Prelude.{IsTrue, OnOk, Some};
 ghost use Rattle.def_fraction.specs.Fraction.{zero_fraction};
 ghost use Rattle.def_file.specs.Content.{action_with};
 ghost use Rattle.def_file.specs.Game.{IsSmallFraction};

@@ -85,7 +85,8 @@ impl GameMaker {
         self.spent
     }
 
-    /// Takes the next entry, in prefix order. After a fault the maker is as it was, and it is spent where memory ran out.
+    /// Takes the next entry, in prefix order. After a fault the maker is as it was, and it is spent where memory ran
+    /// out.
     pub fn push(&mut self, entry: Record) -> Result<(), Refused>
         requires incomplete { wanted 1 self.old.contents.nodes ≢ 0 }
         requires unspent { self.old.spent ≡ false }
@@ -149,7 +150,8 @@ impl GameMaker {
         Game::of(self.prologue, self.tables)
     }
 
-    /// Lets go of what was taken, as `drop` does. A caller that drops a maker itself has code of its own for each table.
+    /// Lets go of what was taken, as `drop` does. A caller that drops a maker itself has code of its own for each
+    /// table.
     pub fn discard(self) {
         drop(self);
     }

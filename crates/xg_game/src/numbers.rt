@@ -1,5 +1,6 @@
 //! Numbers in the order in which they come, and where each stands.
-ghost use Rattle.std.specs.Prelude.{◌≡◌, ℕ, ◌+◌, ◌<◌, ◌≤◌, ◌^◌, if◌then◌else◌, slice_index, [], ◌∷◌, ◌++◌, None, Some, length, nat_eq, position, slice_get, IfSome, OnOk, OnErr};
+ghost use Rattle.std.specs.Prelude.{◌≡◌, ℕ, ◌+◌, ◌<◌, ◌≤◌, ◌^◌, if◌then◌else◌, slice_index, [], ◌∷◌, ◌++◌, None, Some};
+ghost use Rattle.std.specs.Prelude.{length, nat_eq, position, slice_get, IfSome, OnOk, OnErr};
 ghost use Rattle.xg_game.specs.Marks.{SetsMark, mark_of, marked};
 
 use crate::seed::Seed;
@@ -15,8 +16,8 @@ const SPARE_PLACES: u64 = 64;
 /// Numbers, each of which stands once.
 ///
 /// The mark of a number is 0, or one more than the place where it stands. Numbers that are small beside how many there
-/// are have their marks in an array, and the others in a hash table, which takes its seed from the file that the first of
-/// them stands in. So small numbers need no seed, and no numbers that are picked beforehand are slow to find.
+/// are have their marks in an array, and the others in a hash table, which takes its seed from the file that the first
+/// of them stands in. So small numbers need no seed, and no numbers that are picked beforehand are slow to find.
 #[derive(Drop)]
 pub(crate) struct PlacedNumbers {
     numbers: Vec<u64>,

@@ -1,5 +1,6 @@
 //! The outcomes of a game.
-ghost use Rattle.std.specs.Prelude.{◌≡◌, ◌+◌, ◌<◌, ◌^◌, [], ◌∷◌, ◌++◌, length, option_map, slice_set, unwrap_or, None, OnErr, OnOk, IfSome};
+ghost use Rattle.std.specs.Prelude.{◌≡◌, ◌+◌, ◌<◌, ◌^◌, [], ◌∷◌, ◌++◌, length, option_map, slice_set, unwrap_or, None};
+ghost use Rattle.std.specs.Prelude.{OnErr, OnOk, IfSome};
 ghost use Rattle.def_file.specs.Adding as adding;
 ghost use Rattle.def_file.specs.Content.{OutcomeEntry, outcome_mention};
 ghost use Rattle.def_file.specs.Faults as faults;

@@ -4,8 +4,8 @@ use std::hash::{BuildHasher, DefaultHasher, FoldHasher, Hasher};
 
 /// Makes hashers that begin with what a file's bytes make.
 ///
-/// The numbers of the file are among these bytes, so numbers can't be picked by a seed without changing it. Whether such a
-/// file can be found all the same is no matter of proof.
+/// The numbers of the file are among these bytes, so numbers can't be picked by a seed without changing it. Whether
+/// such a file can be found all the same is no matter of proof.
 #[derive(Clone, Copy)]
 pub(crate) struct Seed {
     initial: FoldHasher,

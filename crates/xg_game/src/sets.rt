@@ -1,5 +1,6 @@
 //! The sets of a game.
-ghost use Rattle.std.specs.Prelude.{◌≡◌, ◌≢◌, ◌+◌, ◌<◌, ◌^◌, false, [], ◌∷◌, ◌++◌, length, option_map, slice_set, All, Some, None, OnErr, OnOk, IfSome};
+ghost use Rattle.std.specs.Prelude.{◌≡◌, ◌≢◌, ◌+◌, ◌<◌, ◌^◌, false, [], ◌∷◌, ◌++◌, length, option_map, slice_set, All};
+ghost use Rattle.std.specs.Prelude.{Some, None, OnErr, OnOk, IfSome};
 ghost use Rattle.def_file.specs.Adding as adding;
 ghost use Rattle.def_file.specs.Content.{SetEntry, sets_of_kind, with_sets, set_mention};
 ghost use Rattle.def_file.specs.Faults as faults;

@@ -1,5 +1,6 @@
 //! What is known of the sets or the outcomes of a game, by their numbers in the file.
-ghost use Rattle.std.specs.Prelude.{◌≡◌, ℕ, ◌+◌, ◌<◌, ◌^◌, [], ◌∷◌, ◌++◌, None, Some, length, nat_eq, position, slice_get, slice_set, IfSome, OnOk, OnErr};
+ghost use Rattle.std.specs.Prelude.{◌≡◌, ℕ, ◌+◌, ◌<◌, ◌^◌, [], ◌∷◌, ◌++◌, None, Some, length, nat_eq, position};
+ghost use Rattle.std.specs.Prelude.{slice_get, slice_set, IfSome, OnOk, OnErr};
 ghost use Rattle.std.specs.Map.{keys_of, values_of};
 ghost use Rattle.def_file.specs.Adding.{kept_name};
 ghost use Rattle.xg_game.specs.declared.table.Described.{Described};

@@ -1,5 +1,6 @@
 //! Many texts in little memory.
-ghost use Rattle.std.specs.Prelude.{◌≡◌, ◌<◌, ◌≤◌, ◌-◌, [], ◌∷◌, ◌++◌, Some, drop, length, slice_get, slice_index, take, OnOk, OnErr};
+ghost use Rattle.std.specs.Prelude.{◌≡◌, ◌<◌, ◌≤◌, ◌-◌, [], ◌∷◌, ◌++◌, Some, drop, length, slice_get, slice_index};
+ghost use Rattle.std.specs.Prelude.{take, OnOk, OnErr};
 
 use std::alloc::{AllocError, Global};
 use std::marker::Model;

@@ -46,7 +46,8 @@ pub new_takes : (n : ℕ) → 2 ≤ n → n ≤ 64 → (maker : Made) → maker.
 new_takes n two limit maker unspent empty = record {
   unspent = unspent;
   wanted = subst (λ (c : Contents). AreWanted c (entries n)) (sym empty)
-      (are_wanted (set_with n) outcome_of_poker (entries n) [] (entries n) refl (entries_describe n two limit) (poker_is_game n two limit).0 (entries_begin n two limit));
+      (are_wanted (set_with n) outcome_of_poker (entries n) [] (entries n) refl (entries_describe n two limit) (poker_is_game n two limit).0
+      (entries_begin n two limit));
 }
 
 -- and has then the contents of the game

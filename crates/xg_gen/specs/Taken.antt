@@ -14,7 +14,8 @@ with_entries contents (r ∷ rs) = with_entries (with_record contents r) rs
 -- one after another, each comes where a node is wanted, and has no fault
 abbrev pub AreWanted : Contents → List Record → Type 0
 AreWanted contents [] = Unit {0}
-AreWanted contents (r ∷ rs) = (wanted 1 contents.nodes ≢ 0) × (record_fault contents r ≡ None) × AreWanted (with_record contents r) rs
+AreWanted contents (r ∷ rs) = (wanted 1 contents.nodes ≢ 0) × (record_fault contents r ≡ None)
+    × AreWanted (with_record contents r) rs
 
 -- a maker takes these entries
 pub record Takes (maker : Made) (rs : List Record) : Type 0 where

@@ -39,7 +39,8 @@ pub(crate) struct Wins {
 impl Wins {
     /// The outcome where this player wins.
     pub(crate) fn of(&self, winner: Player) -> &DescribedOutcome
-        ensures outcome { (of : Mover → OutcomeMention) → AreWins of self.now → mention_of_outcome result.now ≡ of winner }
+        ensures outcome { (of : Mover → OutcomeMention) → AreWins of self.now → mention_of_outcome result.now
+            ≡ of winner }
         ensures number { (of : Mover → OutcomeMention) → AreWins of self.now → result.now.number ≤ 4 }
     {
         match winner {

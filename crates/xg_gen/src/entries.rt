@@ -130,8 +130,10 @@ fn put_answer(
     requires card { 1 ≤ i }
     requires own { AreOwnSets n i own.now }
     requires outcomes { AreOutcomes outcomes.now }
-    requires takes { Takes maker.old (def.facing_bet 1 (def.answer n i) (def.wins_one Player.Two) (def.wins_two (def.higher i j))) }
-    ensures { OnOk result (GainsEntries maker.old maker.new (def.facing_bet 1 (def.answer n i) (def.wins_one Player.Two) (def.wins_two (def.higher i j)))) }
+    requires takes { Takes maker.old (def.facing_bet 1 (def.answer n i) (def.wins_one Player.Two)
+        (def.wins_two (def.higher i j))) }
+    ensures { OnOk result (GainsEntries maker.old maker.new
+        (def.facing_bet 1 (def.answer n i) (def.wins_one Player.Two) (def.wins_two (def.higher i j)))) }
 {
     put_facing_bet(
         maker,
@@ -155,8 +157,10 @@ fn put_after_bet(
 ) -> Result<(), AllocError>
     requires card { 1 ≤ j }
     requires outcomes { AreOutcomes outcomes.now }
-    requires takes { Takes maker.old (def.facing_bet 2 (def.after_bet n j) (def.wins_one Player.One) (def.wins_two (def.higher i j))) }
-    ensures { OnOk result (GainsEntries maker.old maker.new (def.facing_bet 2 (def.after_bet n j) (def.wins_one Player.One) (def.wins_two (def.higher i j)))) }
+    requires takes { Takes maker.old (def.facing_bet 2 (def.after_bet n j) (def.wins_one Player.One)
+        (def.wins_two (def.higher i j))) }
+    ensures { OnOk result (GainsEntries maker.old maker.new
+        (def.facing_bet 2 (def.after_bet n j) (def.wins_one Player.One) (def.wins_two (def.higher i j)))) }
 {
     let set = after_bet(alloc, n, j)?;
     put_facing_bet(maker, alloc, 2, &set, Player::One, higher(i, j), outcomes)
@@ -176,7 +180,8 @@ fn put_facing_bet(
     requires from_one { 1 ≤ set.now.number }
     requires set { set.now.number ≤ most }
     requires outcomes { AreOutcomes outcomes.now }
-    requires takes { Takes maker.old (def.facing_bet player (mention_of_set set.now) (def.wins_one folded) (def.wins_two called)) }
+    requires takes { Takes maker.old (def.facing_bet player (mention_of_set set.now) (def.wins_one folded)
+        (def.wins_two called)) }
     ensures { OnOk result (GainsEntries maker.old maker.new
         (def.facing_bet player (mention_of_set set.now) (def.wins_one folded) (def.wins_two called))) }
 {
@@ -232,7 +237,13 @@ fn put_end(
 
 /// An entry with an outcome alone.
 fn last<'a>(name: &'a Text, outcome: &'a DescribedOutcome) -> EntryView<'a>
-    ensures { entry_seen result ≡ record { kind = EntryKind.Leaf; name = name.now; player = 0; set = no_set_mention; outcome = mention_of_outcome outcome.now } }
+    ensures { entry_seen result ≡ record {
+      kind = EntryKind.Leaf;
+      name = name.now;
+      player = 0;
+      set = no_set_mention;
+      outcome = mention_of_outcome outcome.now;
+    } }
 {
     EntryView {
         file: b"",
@@ -250,7 +261,13 @@ fn last<'a>(name: &'a Text, outcome: &'a DescribedOutcome) -> EntryView<'a>
 
 /// An entry with a set and the null outcome.
 fn inner<'a>(kind: EntryKind, name: &'a Text, player: u64, set: &'a DescribedSet) -> EntryView<'a>
-    ensures { entry_seen result ≡ record { kind = kind; name = name.now; player = player; set = mention_of_set set.now; outcome = no_outcome_mention } }
+    ensures { entry_seen result ≡ record {
+      kind = kind;
+      name = name.now;
+      player = player;
+      set = mention_of_set set.now;
+      outcome = no_outcome_mention;
+    } }
 {
     EntryView {
         file: b"",

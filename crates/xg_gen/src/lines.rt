@@ -66,7 +66,8 @@ fn put_player<O: Sink>(kind: Kind, out: &mut O) -> Result<(), WriteFault>
 fn put_place<O: Sink>(game: &Game, kind: Kind, set: u32, out: &mut O) -> Result<(), WriteFault>
     requires from_one { kind ≢ Kind.Leaf → 1 ≤ set }
     requires there { kind ≢ Kind.Leaf → set ≤ length (sets_of_kind kind game.now.sets) }
-    ensures text { Writes (O.written out.old) (O.written out.new) (text_of_pieces (place_pieces kind game.now.sets set)) result }
+    ensures text { Writes (O.written out.old) (O.written out.new) (text_of_pieces (place_pieces kind game.now.sets set))
+        result }
     ensures cause { HasCause (O.faults out.old) (O.faults out.new) result }
 {
     match kind {
@@ -109,7 +110,8 @@ fn put_actions<O: Sink>(game: &Game, kind: Kind, set: u32, out: &mut O) -> Resul
     requires from_one { 1 ≤ set }
     requires there { set ≤ length (sets_of_kind kind game.now.sets) }
     ensures text { let entry = set_at (sets_of_kind kind game.now.sets) (set - 1) in
-        Writes (O.written out.old) (O.written out.new) (text_of_pieces (each (action_pieces kind) entry.actions)) result }
+        Writes (O.written out.old) (O.written out.new) (text_of_pieces (each (action_pieces kind) entry.actions))
+        result }
     ensures cause { HasCause (O.faults out.old) (O.faults out.new) result }
 {
     'actions: for i in 0..game.action_count(kind, set) {
@@ -171,7 +173,8 @@ fn put_chance<O: Sink>(
 #[tactic(auto, unfolding(def_canon::specs::Canon::outcome_pieces))]
 fn put_outcome<O: Sink>(game: &Game, outcome: u32, out: &mut O) -> Result<(), WriteFault>
     requires { outcome ≤ length game.now.outcomes }
-    ensures text { Writes (O.written out.old) (O.written out.new) (text_of_pieces (outcome_pieces game.now.outcomes outcome)) result }
+    ensures text { Writes (O.written out.old) (O.written out.new)
+        (text_of_pieces (outcome_pieces game.now.outcomes outcome)) result }
     ensures cause { HasCause (O.faults out.old) (O.faults out.new) result }
 {
     if outcome == 0 {

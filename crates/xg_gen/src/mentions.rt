@@ -105,7 +105,8 @@ fn push_other(
     card: u32,
 ) -> Result<(), AllocError>
     requires { 2 ≤ n }
-    ensures { OnOk result (actions.new ≡ actions.old ++ map (def.dealt_card (n - 1)) (def.cards_without i (card ∷ []))) }
+    ensures { OnOk result (actions.new ≡ actions.old ++ map (def.dealt_card (n - 1))
+        (def.cards_without i (card ∷ []))) }
 {
     if i != card {
         actions.push(dealt(alloc, n - 1, card)?)?;
@@ -252,7 +253,8 @@ fn outcome(
     requires one { IsTrue (fits (whole_number one)) }
     requires two { IsTrue (fits (whole_number two)) }
     ensures { let payoffs = whole_number one ∷ whole_number two ∷ [] in
-        IfOk result (λ outcome. mention_of_outcome outcome ≡ record { number = number_of; name = Some name.now; payoffs = Some payoffs }) }
+        IfOk result (λ outcome. mention_of_outcome outcome
+        ≡ record { number = number_of; name = Some name.now; payoffs = Some payoffs }) }
 {
     let mut payoffs = Payoffs::new(alloc);
     payoffs.push(number(one))?;

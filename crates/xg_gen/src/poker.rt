@@ -90,7 +90,8 @@ fn put_round(
     requires there { i ≤ n }
     requires outcomes { AreOutcomes outcomes.now }
     requires takes { Takes maker.old (chance_record (def.deal_two n i) ∷ def.hands n i (def.others n i)) }
-    ensures { OnOk result (GainsEntries maker.old maker.new (chance_record (def.deal_two n i) ∷ def.hands n i (def.others n i))) }
+    ensures { OnOk result (GainsEntries maker.old maker.new
+        (chance_record (def.deal_two n i) ∷ def.hands n i (def.others n i))) }
 {
     let own = OwnSets::of(alloc, n, i)?;
     put_deal_two(maker, alloc, n, i)?;

@@ -90,7 +90,8 @@ pub(crate) fn put_text<O: Sink>(bytes: &[u8], out: &mut O) -> Result<(), WriteFa
 
 /// A text on a line of its own.
 pub(crate) fn put_text_line<O: Sink>(bytes: &[u8], out: &mut O) -> Result<(), WriteFault>
-    ensures text { Writes (O.written out.old) (O.written out.new) (text_of_pieces (on_new_line Text (quoted bytes.now) ∷ [])) result }
+    ensures text { Writes (O.written out.old) (O.written out.new)
+        (text_of_pieces (on_new_line Text (quoted bytes.now) ∷ [])) result }
     ensures cause { HasCause (O.faults out.old) (O.faults out.new) result }
 {
     put_quoted(b"\n\"", bytes, out)
@@ -112,7 +113,8 @@ pub(crate) fn put_name<O: Sink>(name: Option<&[u8]>, out: &mut O) -> Result<(), 
 /// Bytes behind an opening quotation mark and what stands before it, and a closing one.
 #[tactic(auto, using(xg_io::proofs::Pieces::prefix_first, xg_io::proofs::Pieces::then_rest))]
 fn put_quoted<O: Sink>(opening: &[u8], bytes: &[u8], out: &mut O) -> Result<(), WriteFault>
-    ensures text { Writes (O.written out.old) (O.written out.new) (opening.now ++ (escaped bytes.now ++ 34 ∷ [])) result }
+    ensures text { Writes (O.written out.old) (O.written out.new) (opening.now ++ (escaped bytes.now ++ 34 ∷ []))
+        result }
     ensures cause { HasCause (O.faults out.old) (O.faults out.new) result }
 {
     write_all(out, opening)?;

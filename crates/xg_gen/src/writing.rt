@@ -41,7 +41,8 @@ fn put_pieces<O: Sink>(game: &Game, out: &mut O) -> Result<(), WriteFault>
 
 /// The first two lines, but for the line feed behind them.
 fn put_prologue<O: Sink>(game: &Game, out: &mut O) -> Result<(), WriteFault>
-    ensures text { Writes (O.written out.old) (O.written out.new) (text_of_pieces (prologue_pieces game.now.prologue)) result }
+    ensures text { Writes (O.written out.old) (O.written out.new) (text_of_pieces (prologue_pieces game.now.prologue))
+        result }
     ensures cause { HasCause (O.faults out.old) (O.faults out.new) result }
 {
     put_marker(out)?;
@@ -56,7 +57,8 @@ fn put_prologue<O: Sink>(game: &Game, out: &mut O) -> Result<(), WriteFault>
 /// The lines of the nodes.
 fn put_lines<O: Sink>(game: &Game, out: &mut O) -> Result<(), WriteFault>
     ensures text { Writes (O.written out.old) (O.written out.new)
-        (text_of_pieces (lines_pieces game.now.sets game.now.outcomes (zip (prefix game.now.tree) game.now.names))) result }
+        (text_of_pieces (lines_pieces game.now.sets game.now.outcomes (zip (prefix game.now.tree) game.now.names)))
+        result }
     ensures cause { HasCause (O.faults out.old) (O.faults out.new) result }
 {
     let tree = game.tree();

@@ -1,5 +1,6 @@
 -- A file in memory: finding it by name, and reading on from a place.
-use Rattle.std.proofs.Common.{◌≡◌, ◌↔◌, ℕ, ◌+◌, ◌<◌, min, List, [], ◌∷◌, ◌++◌, length, take, drop, Bool, true, false, cond, ltb, Option, Some, None, IfSome, refl, sym, ◌∙◌, ap, subst, arith}
+use Rattle.std.proofs.Common.{◌≡◌, ◌↔◌, ℕ, ◌+◌, ◌<◌, min, List, [], ◌∷◌, ◌++◌, length, take, drop, Bool, true, false, cond, ltb, Option, Some, None, IfSome}
+use Rattle.std.proofs.Common.{refl, sym, ◌∙◌, ap, subst, arith}
 use Rattle.std.specs.Prelude.{position, find, slice_get, IfNone}
 use Rattle.std.specs.List.{position_or_len}
 use Rattle.std.specs.Option.{option_map, option_and_then}
@@ -31,7 +32,8 @@ located f p xs (Some i) e = ap f (find_at p xs ∙ ap (slice_get xs) ((cond_some
 pub in_list : {X : Type 0} (p : X → Bool) (xs : List X) (place : Option ℕ) → place ≡ position p xs
     → IfSome place (λ i. i < length xs)
 in_list p xs None e = tt
-in_list p xs (Some i) e = let f = cond_some (ltb (position_or_len p xs) (length xs)) (position_or_len p xs) i (sym e) in omega (arith, ltb-true (position_or_len p xs) (length xs) f.0, f.1)
+in_list p xs (Some i) e = let f = cond_some (ltb (position_or_len p xs) (length xs)) (position_or_len p xs) i (sym e) in omega
+    (arith, ltb-true (position_or_len p xs) (length xs) f.0, f.1)
 
 nil_of : (xs : List ℕ) → length xs ≡ 0 → xs ≡ []
 nil_of [] e = refl

@@ -31,7 +31,8 @@ pub written_more : (first now next : Option (List ℕ)) (bytes : List ℕ) (take
     → next ≡ append_known now (take n (take (length bytes - taken) (drop taken bytes)))
     → next ≡ append_known first (take (taken + n) bytes)
 written_more first now next bytes taken n before after =
-    let rest : take (length bytes - taken) (drop taken bytes) ≡ drop taken bytes = ap (λ (k : ℕ). take k (drop taken bytes)) (sym (length-drop taken bytes)) ∙ take-length (drop taken bytes) in
+    let rest : take (length bytes - taken) (drop taken bytes) ≡ drop taken bytes = ap (λ (k : ℕ). take k (drop taken bytes)) (sym (length-drop taken bytes))
+    ∙ take-length (drop taken bytes) in
     after ∙ ap (λ (xs : List ℕ). append_known now (take n xs)) rest
     ∙ ap (λ (known : Option (List ℕ)). append_known known (take n (drop taken bytes))) before
     ∙ append_known-append first (take taken bytes) (take n (drop taken bytes))
@@ -43,7 +44,8 @@ pub still_waiting : (first now : Option (List ℕ)) (bytes : List ℕ) (start en
     → append_known now (waiting_in bytes (start + taken) end) ≡ append_known first (waiting_in bytes start end)
 still_waiting first now bytes start end taken within is =
     let rest : drop taken (waiting_in bytes start end) ≡ waiting_in bytes (start + taken) end =
-    ap (λ (k : ℕ). drop taken (take k (drop start bytes))) (sym (whole within)) ∙ drop-take taken (end - (start + taken)) (drop start bytes) ∙ ap (take (end - (start + taken))) (drop-drop taken start bytes) in
+    ap (λ (k : ℕ). drop taken (take k (drop start bytes))) (sym (whole within)) ∙ drop-take taken (end - (start + taken)) (drop start bytes)
+    ∙ ap (take (end - (start + taken))) (drop-drop taken start bytes) in
     ap (λ (known : Option (List ℕ)). append_known known (waiting_in bytes (start + taken) end)) is
     ∙ append_known-append first (take taken (waiting_in bytes start end)) (waiting_in bytes (start + taken) end)
     ∙ ap (λ (xs : List ℕ). append_known first (take taken (waiting_in bytes start end) ++ xs)) (sym rest)
@@ -68,12 +70,16 @@ front_of_sink (Some bytes) None waiting text grown front = absurd (cc)
 front_of_sink (Some bytes) (Some taken) waiting text grown front =
     let more : List ℕ = drop (length bytes) taken in
     let is : taken ≡ bytes ++ more = same_bytes taken (bytes ++ more) grown in
-    let all : bytes ++ (more ++ waiting) ≡ bytes ++ take front.count text = sym (append_assoc bytes more waiting) ∙ ap (λ (xs : List ℕ). xs ++ waiting) (sym is) ∙ same_bytes (taken ++ waiting) (bytes ++ take front.count text) front.appended in
-    let rest : more ++ waiting ≡ take front.count text = sym (drop-append_seam bytes (more ++ waiting)) ∙ ap (drop (length bytes)) all ∙ drop-append_seam bytes (take front.count text) in
-    let begins : more ++ (waiting ++ drop front.count text) ≡ text = sym (append_assoc more waiting (drop front.count text)) ∙ ap (λ (xs : List ℕ). xs ++ drop front.count text) rest ∙ take-append-drop front.count text in
+    let all : bytes ++ (more ++ waiting) ≡ bytes ++ take front.count text = sym (append_assoc bytes more waiting) ∙ ap (λ (xs : List ℕ). xs ++ waiting) (sym is)
+    ∙ same_bytes (taken ++ waiting) (bytes ++ take front.count text) front.appended in
+    let rest : more ++ waiting ≡ take front.count text = sym (drop-append_seam bytes (more ++ waiting)) ∙ ap (drop (length bytes)) all
+    ∙ drop-append_seam bytes (take front.count text) in
+    let begins : more ++ (waiting ++ drop front.count text) ≡ text = sym (append_assoc more waiting (drop front.count text))
+    ∙ ap (λ (xs : List ℕ). xs ++ drop front.count text) rest ∙ take-append-drop front.count text in
     record {
       count = length more;
-      appended = grown ∙ ap (λ (xs : List ℕ). Some (bytes ++ xs)) (sym (take-append_seam more (waiting ++ drop front.count text)) ∙ ap (take (length more)) begins);
+      appended = grown ∙ ap (λ (xs : List ℕ). Some (bytes ++ xs)) (sym (take-append_seam more (waiting ++ drop front.count text))
+          ∙ ap (take (length more)) begins);
       some_left = λ _. omega (arith, front.some_left refl, ap length rest, length-append more waiting, length-take front.count text);
     }
 
@@ -86,7 +92,8 @@ front_before_waiting (Some bytes) None waiting text grown some whole = absurd (c
 front_before_waiting (Some bytes) (Some taken) waiting text grown some whole =
     let more : List ℕ = drop (length bytes) taken in
     let is : taken ≡ bytes ++ more = same_bytes taken (bytes ++ more) grown in
-    let all : bytes ++ (more ++ waiting) ≡ bytes ++ text = sym (append_assoc bytes more waiting) ∙ ap (λ (xs : List ℕ). xs ++ waiting) (sym is) ∙ same_bytes (taken ++ waiting) (bytes ++ text) whole in
+    let all : bytes ++ (more ++ waiting) ≡ bytes ++ text = sym (append_assoc bytes more waiting) ∙ ap (λ (xs : List ℕ). xs ++ waiting) (sym is)
+    ∙ same_bytes (taken ++ waiting) (bytes ++ text) whole in
     let rest : more ++ waiting ≡ text = sym (drop-append_seam bytes (more ++ waiting)) ∙ ap (drop (length bytes)) all ∙ drop-append_seam bytes text in
     record {
       count = length more;

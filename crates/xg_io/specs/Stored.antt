@@ -6,7 +6,8 @@ use Rattle.xg_io.specs.declared.stored.Stored.{Stored}
 
 -- the bytes of a name
 abbrev pub stored_bytes_of : List Stored → List ℕ → Option (List ℕ)
-stored_bytes_of files name = option_map (λ file. file.bytes.items) (find (λ file. pointwise nat_eq file.name.items name) files)
+stored_bytes_of files name = option_map (λ file. file.bytes.items)
+    (find (λ file. pointwise nat_eq file.name.items name) files)
 
 -- the bytes at a place in the list
 abbrev pub stored_bytes_at : List Stored → ℕ → Option (List ℕ)

@@ -1,5 +1,6 @@
 //! The real outside: std's files and streams. They tell nothing of what files hold and terminals take.
-ghost use Rattle.std.specs.Prelude.{◌≡◌, ◌+◌, ◌<◌, ◌≤◌, length, Option, None, true, false, is_some, is_ok, IsTrue, IfOk, IfSome, OnErr, OnOk};
+ghost use Rattle.std.specs.Prelude.{◌≡◌, ◌+◌, ◌<◌, ◌≤◌, length, Option, None, true, false, is_some, is_ok, IsTrue};
+ghost use Rattle.std.specs.Prelude.{IfOk, IfSome, OnErr, OnOk};
 ghost use Rattle.std.specs.Io.KnownBytes.{ReadConsumes, WriteAppends};
 ghost use Rattle.def_outside.specs.Calls.{past_count};
 ghost use Rattle.def_outside.specs.Cause.{HasCause, next_count};

@@ -1,5 +1,6 @@
 //! Files in memory that never fail.
-ghost use Rattle.std.specs.Prelude.{◌≡◌, ◌≢◌, ℕ, ◌+◌, ◌<◌, ◌≤◌, ◌↔◌, true, List, length, take, min, Option, Some, None, is_some, is_ok, IsOk, IsTrue, [], IfOk, IfSome, OnOk, OnErr};
+ghost use Rattle.std.specs.Prelude.{◌≡◌, ◌≢◌, ℕ, ◌+◌, ◌<◌, ◌≤◌, ◌↔◌, true, List, length, take, min, Option, Some, None};
+ghost use Rattle.std.specs.Prelude.{is_some, is_ok, IsOk, IsTrue, [], IfOk, IfSome, OnOk, OnErr};
 ghost use Rattle.std.specs.Io.KnownBytes.{Consumes};
 ghost use Rattle.def_outside.specs.Calls.{past_count};
 ghost use Rattle.def_outside.specs.Cause.{HasCause, next_count};
@@ -47,7 +48,8 @@ impl SureFiles {
         ensures same_taken { sure_taken_of self.new ≡ sure_taken_of self.old }
         ensures same_opens { sure_opens_of self.new ≡ sure_opens_of self.old }
         ensures same_open { OnErr result (sure_current_of self.new ≡ sure_current_of self.old) }
-        ensures same_told { OnErr result ((other : List ℕ) → sure_told_of self.new other ≡ sure_told_of self.old other) }
+        ensures same_told { OnErr result ((other : List ℕ) → sure_told_of self.new other
+            ≡ sure_told_of self.old other) }
     {
         store(&mut self.files, name, bytes)?;
         self.current = None;

@@ -1,5 +1,6 @@
 -- The search for a text's closing mark, one quotation mark after another.
-use Rattle.std.proofs.Common.{◌≡◌, ℕ, zero, suc, ◌+◌, ◌-◌, ◌<◌, ◌≤◌, true, false, eqb, List, [], ◌∷◌, length, drop, get_or, Some, None, sym, refl, ap, ◌∙◌, arith, eq-eqb, add-zero, get_or-drop}
+use Rattle.std.proofs.Common.{◌≡◌, ℕ, zero, suc, ◌+◌, ◌-◌, ◌<◌, ◌≤◌, true, false, eqb, List, [], ◌∷◌, length, drop, get_or, Some, None, sym, refl, ap, ◌∙◌}
+use Rattle.std.proofs.Common.{arith, eq-eqb, add-zero, get_or-drop}
 use Rattle.std.proofs.Common.{◌≢◌, length-drop}
 use Rattle.std.proofs.lemmas.List.{drop_more, drop-drop}
 use Rattle.std.proofs.lemmas.Bool.{false_from_ne_true, ne_eqb}
@@ -31,7 +32,8 @@ closing_from-drop (suc k) at before (b ∷ bs) within none =
 pub closing_from-none : (at before : ℕ) (bs : List ℕ) → NoMarkBelow bs (length bs) → closing_from at before bs ≡ None
 unfolding closing_from
 closing_from-none at before [] none = refl
-closing_from-none at before (b ∷ bs) none = closing_from-cons at before b bs (none 0 (omega arith)) ∙ closing_from-none (at + 1) b bs (λ j h. none (suc j) (omega arith))
+closing_from-none at before (b ∷ bs) none = closing_from-cons at before b bs (none 0 (omega arith))
+    ∙ closing_from-none (at + 1) b bs (λ j h. none (suc j) (omega arith))
 
 -- a mark behind a byte that is no backslash closes
 closing_from-closes : (at before b : ℕ) (bs : List ℕ) → eqb b 34 ≡ true → eqb before 92 ≡ false
@@ -124,5 +126,6 @@ pub SearchesOn-end : (bytes : List ℕ) (start at : ℕ) (hay : List ℕ) → ha
     → Nowhere (Passes (is_byte 34) hay) 0 (length hay)
     → None ≡ closing_from (start + 1) (get_or bytes start 0) (drop (start + 1) bytes)
 SearchesOn-end bytes start at hay is_rest on none =
-    sym (closing_from-none at (get_or bytes (at - 1) 0) (drop at bytes) (λ j below. false_from_ne_true _ (λ passes. none j (omega arith) (omega (arith, ap length is_rest)) (ap (λ l. eqb (get_or l j 0) 34) is_rest ∙ passes))))
+    sym (closing_from-none at (get_or bytes (at - 1) 0) (drop at bytes) (λ j below. false_from_ne_true _
+    (λ passes. none j (omega arith) (omega (arith, ap length is_rest)) (ap (λ l. eqb (get_or l j 0) 34) is_rest ∙ passes))))
     ∙ on.same

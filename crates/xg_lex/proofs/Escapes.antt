@@ -1,5 +1,6 @@
 -- The bytes that an inside stands for, one quotation mark after another.
-use Rattle.std.proofs.Common.{◌≡◌, ℕ, zero, suc, ◌+◌, ◌-◌, ◌<◌, ◌≤◌, false, eqb, List, [], ◌∷◌, ◌++◌, length, take, drop, get_or, sym, refl, ap, ◌∙◌, subst, arith, append_assoc, length-drop}
+use Rattle.std.proofs.Common.{◌≡◌, ℕ, zero, suc, ◌+◌, ◌-◌, ◌<◌, ◌≤◌, false, eqb, List, [], ◌∷◌, ◌++◌, length, take, drop, get_or, sym, refl, ap, ◌∙◌, subst}
+use Rattle.std.proofs.Common.{arith, append_assoc, length-drop}
 use Rattle.std.proofs.lemmas.List.{drop-drop}
 use Rattle.std.proofs.lemmas.Bool.{false_from_ne_true, eqb-true}
 use Rattle.std.proofs.Common.{⊎_elim}
@@ -69,14 +70,16 @@ unescaped-first (suc k) (b ∷ bs) within none mark backslash =
 -- in an inside a first mark has its backslash
 module _ (k : ℕ) (bs : List ℕ) (within : k < length bs) (all : MarksEscaped 34 bs) (mark : get_or bs k 0 ≡ 34) where
   begun : 0 < k
-  begun = ⊎_elim (λ positive. positive) (λ none. let zero_k : k ≡ 0 = omega arith in let clash : 34 ≡ 92 = ap (λ n. get_or (34 ∷ bs) n 0) (sym zero_k) ∙ MarksEscaped-at k 34 bs within all mark in absurd (omega arith)) (order 0 k)
+  begun = ⊎_elim (λ positive. positive) (λ none. let zero_k : k ≡ 0 = omega arith in let clash : 34 ≡ 92 = ap (λ n. get_or (34 ∷ bs) n 0) (sym zero_k)
+      ∙ MarksEscaped-at k 34 bs within all mark in absurd (omega arith)) (order 0 k)
 
   first_escape : NoMarkBelow bs k → unescaped bs ≡ take (k - 1) bs ++ 34 ∷ unescaped (drop (k + 1) bs)
   first_escape none =
       let positive = begun in
       let same : suc (k - 1) ≡ k = omega arith in
       let next : suc (suc (k - 1)) ≡ k + 1 = omega arith in
-      unescaped-first (k - 1) bs (omega arith) (λ j below. none j (omega arith)) (ap (λ n. get_or bs n 0) same ∙ mark) (ap (λ n. get_or (34 ∷ bs) n 0) same ∙ MarksEscaped-at k 34 bs within all mark)
+      unescaped-first (k - 1) bs (omega arith) (λ j below. none j (omega arith)) (ap (λ n. get_or bs n 0) same ∙ mark)
+      (ap (λ n. get_or (34 ∷ bs) n 0) same ∙ MarksEscaped-at k 34 bs within all mark)
       ∙ ap (λ n. take (k - 1) bs ++ 34 ∷ unescaped (drop n bs)) next
 
   behind : MarksEscaped 34 (drop (k + 1) bs)
@@ -137,5 +140,6 @@ module _ (raw : List ℕ) (at k : ℕ) (bytes hay : List ℕ) (is_rest : hay ≡
 pub StandsFor-end : (raw : List ℕ) (at : ℕ) (bytes hay : List ℕ) → hay ≡ drop at raw → IsCopiedSoFar raw at bytes
     → Nowhere (Passes (is_byte 34) hay) 0 (length hay) → bytes ++ drop at raw ≡ unescaped raw
 StandsFor-end raw at bytes hay is_rest on none =
-    ap (λ l. bytes ++ l) (sym (unescaped-none (drop at raw) (λ j below. false_from_ne_true _ (λ passes. none j (omega arith) (omega (arith, ap length is_rest)) (ap (λ l. eqb (get_or l j 0) 34) is_rest ∙ passes)))))
+    ap (λ l. bytes ++ l) (sym (unescaped-none (drop at raw) (λ j below. false_from_ne_true _
+    (λ passes. none j (omega arith) (omega (arith, ap length is_rest)) (ap (λ l. eqb (get_or l j 0) 34) is_rest ∙ passes)))))
     ∙ on.same

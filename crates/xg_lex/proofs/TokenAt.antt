@@ -12,7 +12,8 @@ use Rattle.def_file_tokens.specs.declared.LexFault.TheVariants.{Syntax}
 use Rattle.def_file_tokens.specs.Bytes.{in_run, begins_word, begins_number}
 use Rattle.def_file_tokens.specs.Texts.{closing_from}
 use Rattle.def_file_tokens.proofs.TextLemmas.{slice_range-inner}
-use Rattle.def_file_tokens.proofs.TokenLemmas.{token_at-text, token_at-open, token_at-close, token_at-comma, token_at-word, token_at-number, token_at-fault, token_at-end}
+use Rattle.def_file_tokens.proofs.TokenLemmas.{token_at-text, token_at-open, token_at-close, token_at-comma, token_at-word, token_at-number, token_at-fault}
+use Rattle.def_file_tokens.proofs.TokenLemmas.{token_at-end}
 use Rattle.def_file_tokens.specs.Tokens.{after_space, span, text_from, token_at, next_from}
 
 -- at an offset of the bytes

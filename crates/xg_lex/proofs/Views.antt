@@ -1,5 +1,6 @@
 -- Whether an inside stands for some bytes, one byte after another.
-use Rattle.std.proofs.Common.{◌≡◌, ℕ, zero, suc, ◌+◌, ◌≤◌, ◌<◌, Bool, true, false, nat_eq, ◌==◌, ◌&&◌, List, [], ◌∷◌, length, drop, get_or, sym, refl, ap, ◌∙◌, arith}
+use Rattle.std.proofs.Common.{◌≡◌, ℕ, zero, suc, ◌+◌, ◌≤◌, ◌<◌, Bool, true, false, nat_eq, ◌==◌, ◌&&◌, List, [], ◌∷◌, length, drop, get_or, sym, refl, ap, ◌∙◌}
+use Rattle.std.proofs.Common.{arith}
 use Rattle.std.specs.Cmp.Lexicographic.{pointwise}
 use Rattle.std.proofs.lemmas.List.{drop_all, drop_more}
 use Rattle.std.proofs.Math.Dec.{eqb-suc-suc, eqb-zero-suc}
@@ -53,7 +54,8 @@ module _ (raw bytes : List ℕ) (i at : ℕ) (here : i < length raw) (on : Compa
       ap (λ l. pointwise nat_eq l (get_or raw i 0 ∷ unescaped (drop (i + 1) raw))) (sym (drop_all at bytes (omega arith))) ∙ next_is other
 
   module _ (other : escape_at raw i ≡ false) (there : at < length bytes) where
-    compared : (nat_eq (get_or bytes at 0) (get_or raw i 0) && pointwise nat_eq (drop (at + 1) bytes) (unescaped (drop (i + 1) raw))) ≡ pointwise nat_eq bytes (unescaped raw)
+    compared : (nat_eq (get_or bytes at 0) (get_or raw i 0) && pointwise nat_eq (drop (at + 1) bytes) (unescaped (drop (i + 1) raw)))
+        ≡ pointwise nat_eq bytes (unescaped raw)
     compared =
         ap (λ l. pointwise nat_eq l (get_or raw i 0 ∷ unescaped (drop (i + 1) raw))) (sym (drop_more bytes at 0 there)) ∙ next_is other
 
@@ -64,7 +66,11 @@ module _ (raw bytes : List ℕ) (i at : ℕ) (here : i < length raw) (on : Compa
 
     -- where the next bytes of both are the same, the comparison goes on behind them
     pub ComparesOn-next : nat_eq (get_or bytes at 0) (get_or raw i 0) ≡ true → ComparesOn raw bytes (i + 1) (at + 1)
-    ComparesOn-next equal = record { within = omega arith; same = ap (λ b. b && pointwise nat_eq (drop (at + 1) bytes) (unescaped (drop (i + 1) raw))) (sym equal) ∙ compared }
+    ComparesOn-next equal = record {
+      within = omega arith;
+      same = ap (λ b. b && pointwise nat_eq (drop (at + 1) bytes) (unescaped (drop (i + 1) raw)))
+          (sym equal) ∙ compared;
+    }
 
 at_end : (at : ℕ) (bs : List ℕ) → at ≤ length bs → nat_eq at (length bs) ≡ pointwise nat_eq (drop at bs) []
 at_end zero [] within = refl

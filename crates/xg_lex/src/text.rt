@@ -1,5 +1,6 @@
 //! Texts of a file: the bytes that stand for them, and views of them where they stand.
-ghost use Rattle.std.specs.Prelude.{◌≡◌, ◌+◌, ◌<◌, ◌≤◌, ◌==◌, ◌&&◌, List, drop, length, slice_index, IfOk, IfSome, nat_eq, false, None, Contains};
+ghost use Rattle.std.specs.Prelude.{◌≡◌, ◌+◌, ◌<◌, ◌≤◌, ◌==◌, ◌&&◌, List, drop, length, slice_index, IfOk, IfSome};
+ghost use Rattle.std.specs.Prelude.{nat_eq, false, None, Contains};
 ghost use Rattle.std.specs.Cmp.Lexicographic.{pointwise};
 ghost use Rattle.def_file_tokens.specs.Texts.{IsInside, EndsPlainly, begins_with_mark, unescaped};
 
@@ -48,7 +49,8 @@ impl Text {
 #[derive(Drop)]
 pub struct TextView<'a> {
     bytes: &'a [u8],
-    // If the bytes are an inside with quotation marks, where the first of them stands, and else how many bytes there are.
+    // If the bytes are an inside with quotation marks, where the first of them stands, and else how many bytes there
+    // are.
     first_mark: usize,
 }
 
@@ -122,7 +124,8 @@ impl<'a> TextView<'a> {
     }
 }
 
-/// Where the first quotation mark stands, and how many bytes there are if none does. Most nodes have no name, and no byte.
+/// Where the first quotation mark stands, and how many bytes there are if none does. Most nodes have no name, and no
+/// byte.
 #[inline(always)]
 fn first_mark(raw: &[u8]) -> usize
     ensures plain { length raw.now ≤ result → IsInside raw.now → unescaped raw.now ≡ raw.now }

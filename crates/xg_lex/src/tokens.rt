@@ -1,5 +1,6 @@
 //! The tokens of a file, one after another.
-ghost use Rattle.std.specs.Prelude.{◌≡◌, ℕ, ◌+◌, ◌-◌, ◌<◌, ◌≤◌, ◌↔◌, IsTrue, Option, drop, length, slice_index, slice_range, IfOk, IfSome};
+ghost use Rattle.std.specs.Prelude.{◌≡◌, ℕ, ◌+◌, ◌-◌, ◌<◌, ◌≤◌, ◌↔◌, IsTrue, Option, drop, length, slice_index};
+ghost use Rattle.std.specs.Prelude.{slice_range, IfOk, IfSome};
 ghost use Rattle.std.specs.List.{prefix_len, AllPass};
 ghost use Rattle.def_file_tokens.specs.Bytes.{is_space, in_run, begins_word, begins_number};
 ghost use Rattle.def_file_tokens.specs.Texts.{IsInside, closing_from};
@@ -68,7 +69,8 @@ impl<'a> Tokens<'a> {
     pub fn next_byte(&self) -> Option<u8>
         ensures exact { result ≡ byte_from self.now.whole self.now.at }
         ensures first { (b : ℕ) → (result ≡ Some b)
-            ↔ ((place : ℕ) × IsFirstByteFrom self.now.whole self.now.at place × (slice_index self.now.whole place ≡ b)) }
+            ↔ ((place : ℕ) × IsFirstByteFrom self.now.whole self.now.at place
+            × (slice_index self.now.whole place ≡ b)) }
         ensures none { (result ≡ None) ↔ AllPass is_space (drop self.now.at self.now.whole) }
     {
         self.bytes.get(self.start).copied()
@@ -190,7 +192,8 @@ fn run_at(bytes: &[u8], start: usize, kind: Token) -> Lexeme
 fn text_at(bytes: &[u8], start: usize) -> Result<Lexeme, LexFault>
     requires there { start < length bytes.now }
     requires mark { slice_index bytes.now start ≡ 34 }
-    ensures value { result ≡ text_from start (closing_from (start + 1) (slice_index bytes.now start) (drop (start + 1) bytes.now)) }
+    ensures value { result ≡ text_from start (closing_from (start + 1) (slice_index bytes.now start)
+        (drop (start + 1) bytes.now)) }
     ensures within { IfOk result (λ lexeme. lexeme.end ≤ length bytes.now) }
 {
     if is_empty_text(bytes, start) {

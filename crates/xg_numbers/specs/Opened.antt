@@ -27,4 +27,5 @@ HasSets tree = (sets : TreeSets) × (sets_or_break tree ≡ Ok sets)
 
 -- recall breaks there first, and the fault says so
 abbrev pub IsBreakOf : Forest → FileFault → Type 0
-IsBreakOf tree fault = (broken : RecallBreak) × (sets_or_break tree ≡ Err broken) × (fault ≡ NotRecall broken.node broken.earlier)
+IsBreakOf tree fault = (broken : RecallBreak) × (sets_or_break tree ≡ Err broken)
+    × (fault ≡ NotRecall broken.node broken.earlier)

@@ -1,5 +1,6 @@
 -- The number of one digit, and the literals of one digit.
-use Rattle.std.proofs.Common.{◌≡◌, ℕ, zero, suc, ◌+◌, ◌-◌, ◌<◌, ◌≤◌, w64, pos, ◌-ℤ◌, to_z, of_z, subst, true, List, [], ◌∷◌, length, get_or, Ok, refl, sym, ap, arith}
+use Rattle.std.proofs.Common.{◌≡◌, ℕ, zero, suc, ◌+◌, ◌-◌, ◌<◌, ◌≤◌, w64, pos, ◌-ℤ◌, to_z, of_z, subst, true, List, [], ◌∷◌, length, get_or, Ok, refl, sym, ap}
+use Rattle.std.proofs.Common.{arith}
 use Rattle.std.specs.Prelude.{nat_le}
 use Rattle.std.specs.Char.{is_ascii_digit}
 use Rattle.std.proofs.lemmas.Bool.{and_from, le-leb}
@@ -43,7 +44,8 @@ digit_value = below_ten (λ d. Ok (whole_number (to_z w64 d)) ≡ read_as_litera
 -- a minus and a digit have its negative value
 minus_digit_value : (d : ℕ) → d < 10 → Ok (whole_number (to_z w64 (of_z w64 (pos 0 -ℤ to_z w64 d)))) ≡ read_as_literal (45 ∷ (48 + d) ∷ [])
 unfolding read_as_literal literal_of value_of body_of body_after decimal_of power_of fraction_of gcd
-minus_digit_value = below_ten (λ d. Ok (whole_number (to_z w64 (of_z w64 (pos 0 -ℤ to_z w64 d)))) ≡ read_as_literal (45 ∷ (48 + d) ∷ [])) refl refl refl refl refl refl refl refl refl refl
+minus_digit_value = below_ten (λ d. Ok (whole_number (to_z w64 (of_z w64 (pos 0 -ℤ to_z w64 d)))) ≡ read_as_literal (45 ∷ (48 + d) ∷ [])) refl refl refl refl
+    refl refl refl refl refl refl
 
 -- a digit alone is read as its value
 pub digit_literal : (bytes : List ℕ) → length bytes ≡ 1 → 48 ≤ get_or bytes 0 0 → get_or bytes 0 0 ≤ 57

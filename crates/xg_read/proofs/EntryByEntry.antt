@@ -32,7 +32,8 @@ pub entries_done : (left : ℕ) (contents : Contents) (whole : List ℕ) (at : �
 unfolding entries_from
 entries_done zero contents whole at some done = absurd (omega arith)
 entries_done (suc left) contents whole at some done =
-    ap (λ (b : Bool). cond b (Ok (contents, at)) (entry_at whole at >>= λ entry. judged contents entry.0 >>= λ next. entries_from left next whole entry.1)) (eq-eqb (wanted 1 contents.nodes) 0 done)
+    ap (λ (b : Bool). cond b (Ok (contents, at)) (entry_at whole at >>= λ entry. judged contents entry.0 >>= λ next. entries_from left next whole entry.1))
+    (eq-eqb (wanted 1 contents.nodes) 0 done)
 
 abbrev paired : ℕ → Contents → Result (Contents × ℕ) FileFault
 paired end next = Ok (next, end)
@@ -59,7 +60,8 @@ entries_more zero contents whole at some goes = absurd (omega arith)
 entries_more (suc left) contents whole at some goes =
     let e : suc left - 1 ≡ left = omega arith in
     rw e
-    (ap (λ (b : Bool). cond b (Ok (contents, at)) (entry_at whole at >>= λ entry. judged contents entry.0 >>= λ next. entries_from left next whole entry.1)) (ne_eqb (wanted 1 contents.nodes) 0 goes)
+    (ap (λ (b : Bool). cond b (Ok (contents, at)) (entry_at whole at >>= λ entry. judged contents entry.0 >>= λ next. entries_from left next whole entry.1))
+    (ne_eqb (wanted 1 contents.nodes) 0 goes)
     ∙ regrouped left whole contents (entry_at whole at))
 
 -- it stops there

@@ -51,4 +51,5 @@ pub answer_any_length : (bytes : List ℕ) (answer : Result GameFile Refused) �
     → answer ≢ Err (File TooLong)
 answer_any_length bytes (Ok game) h e = cc
 answer_any_length bytes (Err NoMemory) h e = cc
-answer_any_length bytes (Err (File fault)) h e = game_any_length bytes (h ∙ (let same : ◌≡◌ {A = Result GameFile Refused} (Err (File fault)) (Err (File TooLong)) = e in cc))
+answer_any_length bytes (Err (File fault)) h e = game_any_length bytes (h
+    ∙ (let same : ◌≡◌ {A = Result GameFile Refused} (Err (File fault)) (Err (File TooLong)) = e in cc))

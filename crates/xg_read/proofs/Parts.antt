@@ -6,7 +6,8 @@ use Rattle.def_file.specs.declared.EntryKind.{EntryKind}
 use Rattle.def_file.specs.declared.EntryKind.TheVariants.{Chance, Personal, Leaf}
 use Rattle.def_file.specs.declared.FileFault.{FileFault}
 use Rattle.def_file.specs.Content.{Record}
-use Rattle.def_file.specs.Reading.{◌>>=◌, begins_entry, chance_entry_at, entry_at, entry_behind, is_exact, outcome_mention_at, personal_entry_at, terminal_entry_at, text_at, token_where}
+use Rattle.def_file.specs.Reading.{◌>>=◌, begins_entry, chance_entry_at, entry_at, entry_behind, is_exact, outcome_mention_at, personal_entry_at}
+use Rattle.def_file.specs.Reading.{terminal_entry_at, text_at, token_where}
 use Rattle.xg_read.specs.Entries.{kind_at, kind_of, mover_at, parts_at, set_part_at}
 
 -- the parts behind the word of an entry of this kind

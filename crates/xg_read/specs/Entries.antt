@@ -6,7 +6,8 @@ use Rattle.def_file.specs.declared.EntryKind.{EntryKind}
 use Rattle.def_file.specs.declared.EntryKind.TheVariants.{Chance, Personal, Leaf}
 use Rattle.def_file.specs.declared.FileFault.{FileFault}
 use Rattle.def_file.specs.Content.{Record, SetMention, no_set_mention}
-use Rattle.def_file.specs.Reading.{◌>>=◌, begins_entry, is_exact, outcome_mention_at, set_mention_at, text_at, token_where, whole_at}
+use Rattle.def_file.specs.Reading.{◌>>=◌, begins_entry, is_exact, outcome_mention_at, set_mention_at, text_at}
+use Rattle.def_file.specs.Reading.{token_where, whole_at}
 
 -- the kind that an entry's word stands for
 abbrev pub kind_of : List ℕ → Lexeme → EntryKind

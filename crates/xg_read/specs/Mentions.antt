@@ -1,6 +1,7 @@
 -- What an entry says of its set and its outcome, and the names of a prologue, as reading has them.
 use Rattle.def_fraction.specs.Fraction.{most}
-use Rattle.std.specs.Prelude.{◌≡◌, ℕ, ◌≤◌, true, List, [], length, slice_get, option_map, unwrap_or, Option, Result, Ok, Err}
+use Rattle.std.specs.Prelude.{◌≡◌, ℕ, ◌≤◌, true, List, [], length, slice_get, option_map, unwrap_or, Option, Result, Ok}
+use Rattle.std.specs.Prelude.{Err}
 use Rattle.def_file.specs.declared.FileFault.{FileFault}
 use Rattle.def_file.specs.Content as content
 use Rattle.def_file.specs.Faults.{has_set}
@@ -47,5 +48,6 @@ comment_at whole at = name_at whole at >>= λ name. Ok (unwrap_or name.0 [], nam
 
 -- the names of both players, where there are two, and else the fault
 abbrev pub IsBoth : List (List ℕ) → Result BothNames FileFault → Type 0
-IsBoth names (Ok p) = ((at : ℕ) → checked_names names at ≡ Ok at) × (p.one ≡ nth_name names 0) × (p.two ≡ nth_name names 1)
+IsBoth names (Ok p) = ((at : ℕ) → checked_names names at ≡ Ok at) × (p.one ≡ nth_name names 0)
+    × (p.two ≡ nth_name names 1)
 IsBoth names (Err fault) = (at : ℕ) → checked_names names at ≡ Err fault

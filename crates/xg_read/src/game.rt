@@ -102,7 +102,8 @@ fn take_entry<'a>(
 ) -> Result<(), Refused>
     requires incomplete { wanted 1 maker.old.contents.nodes ≢ 0 }
     requires unspent { maker.old.spent ≡ false }
-    ensures exact { GivesNext result maker.new.contents reader.new.at (next_at maker.old.contents reader.old.whole reader.old.at) }
+    ensures exact { GivesNext result maker.new.contents reader.new.at
+        (next_at maker.old.contents reader.old.whole reader.old.at) }
     ensures unspent { OnOk result (maker.new.spent ≡ false) }
     ensures prologue { maker.new.prologue ≡ maker.old.prologue }
     ensures whole { reader.new.whole ≡ reader.old.whole }

@@ -1,6 +1,7 @@
 //! Lists of actions and of payoffs.
 ghost use Rattle.std.specs.Prelude.{◌≡◌, ◌-◌, [], length, option_map};
-ghost use Rattle.def_file.specs.Reading.{action_at, actions_at, actions_from, chance_at, payoff_at, payoffs_at, payoffs_from};
+ghost use Rattle.def_file.specs.Reading.{action_at, actions_at, actions_from, chance_at, payoff_at, payoffs_at};
+ghost use Rattle.def_file.specs.Reading.{payoffs_from};
 ghost use Rattle.xg_record.specs.Entry.{actions_seen};
 ghost use Rattle.xg_record.specs.Seen.{action_seen};
 ghost use Rattle.xg_read.specs.Gives.{Gives, GivesFor, GivesSeen};
@@ -70,7 +71,8 @@ impl<'a> Reader<'a> {
     ) -> Result<Option<EntryActions<'l>>, Refused>
     where
         'a: 'l,
-        ensures exact { GivesFor (option_map actions_seen) result self.new.at (actions_at kind self.old.whole self.old.at) }
+        ensures exact { GivesFor (option_map actions_seen) result self.new.at
+            (actions_at kind self.old.whole self.old.at) }
         ensures whole { self.new.whole ≡ self.old.whole }
     {
         if !self.comes(b'{') {

@@ -33,7 +33,8 @@ impl<'a> Reader<'a> {
     #[tactic(auto, using(crate::proofs::Names::names_closed, crate::proofs::Names::names_more, crate::proofs::Names::names_full), unfolding(def_file::specs::Reading::close_at))]
     fn names(&mut self, alloc: Global) -> Result<PlayerNames, Refused>
         requires { length self.old.whole ≤ most_bytes }
-        ensures exact { GivesNames result self.new.at (names_from (length self.old.whole) [] self.old.whole self.old.at) }
+        ensures exact { GivesNames result self.new.at (names_from (length self.old.whole) [] self.old.whole
+            self.old.at) }
         ensures whole { self.new.whole ≡ self.old.whole }
     {
         let mut names = PlayerNames {

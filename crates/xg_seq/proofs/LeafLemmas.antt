@@ -1,5 +1,6 @@
 -- The leaves among the first k nodes of a tree, and one node more.
-use Rattle.std.proofs.Common.{◌≡◌, ℕ, ◌+◌, ◌-◌, ◌<◌, ◌≤◌, true, false, cond, List, [], ◌∷◌, ◌++◌, length, get_or, take, drop, map, filter, not, refl, ap, sym, ◌∙◌, arith, append-nil, length-append, take-append-drop, ℤ, pos, Some, slice_get}
+use Rattle.std.proofs.Common.{◌≡◌, ℕ, ◌+◌, ◌-◌, ◌<◌, ◌≤◌, true, false, cond, List, [], ◌∷◌, ◌++◌, length, get_or, take, drop, map, filter, not, refl, ap, sym}
+use Rattle.std.proofs.Common.{◌∙◌, arith, append-nil, length-append, take-append-drop, ℤ, pos, Some, slice_get}
 use Rattle.std.proofs.lemmas.List.{get_or-map, length-map, map-append, take_all}
 use Rattle.std.proofs.lemmas.List.Elements.{filter-append}
 use Rattle.std.proofs.lemmas.List.Filters.{length-filter_both}
@@ -66,7 +67,8 @@ module _ (tree : Forest) (game : IsGameTree tree) (k : ℕ) (there : k < node_co
   is_node = next_node tree k (k + 1 - 1) x there (omega arith) read
 
   before_more : leaf_visits_before tree (k + 1) ≡ leaf_visits_before tree k ++ cond (is_leaf_kind x.kind) (v ∷ []) []
-  before_more = ap (filter is_leaf) next.taken ∙ filter-append is_leaf (take k (visits tree)) (v ∷ []) ∙ ap (λ y. leaf_visits_before tree k ++ cond (is_leaf_kind y.kind) (v ∷ []) []) is_node
+  before_more = ap (filter is_leaf) next.taken ∙ filter-append is_leaf (take k (visits tree)) (v ∷ [])
+      ∙ ap (λ y. leaf_visits_before tree k ++ cond (is_leaf_kind y.kind) (v ∷ []) []) is_node
 
   -- a node that isn't a leaf adds none
   pub no_leaf_more : is_leaf_kind x.kind ≡ false → leaf_visits_before tree (k + 1) ≡ leaf_visits_before tree k
@@ -91,7 +93,8 @@ module _ (tree : Forest) (game : IsGameTree tree) (k : ℕ) (there : k < node_co
         → s ≡ sequence_at kind tree v
     known kind s got =
         let index : k + 1 - 1 ≡ k = omega arith in
-        sym (get_or_from_slice_get (map (sequence_at kind tree) (visits tree)) k s 0 (ap (slice_get (map (sequence_at kind tree) (visits tree))) (sym index) ∙ got))
+        sym (get_or_from_slice_get (map (sequence_at kind tree) (visits tree)) k s 0
+        (ap (slice_get (map (sequence_at kind tree) (visits tree))) (sym index) ∙ got))
         ∙ get_or-map (sequence_at kind tree) (visits tree) k no_visit 0 next.there
 
     -- the leaf with its sequences and its weight is one more

@@ -1,5 +1,6 @@
 -- The numbers of the sets at which the sequences end.
-use Rattle.std.proofs.Common.{◌≡◌, ℕ, suc, ◌+◌, ◌-◌, ◌<◌, ◌≤◌, List, [], ◌∷◌, ◌++◌, length, get_or, take, map, replicate, refl, ap, sym, subst, ◌∙◌, arith, append-nil, append_assoc, length-append, length-take-le, inl, inr}
+use Rattle.std.proofs.Common.{◌≡◌, ℕ, suc, ◌+◌, ◌-◌, ◌<◌, ◌≤◌, List, [], ◌∷◌, ◌++◌, length, get_or, take, map, replicate, refl, ap, sym, subst, ◌∙◌, arith}
+use Rattle.std.proofs.Common.{append-nil, append_assoc, length-append, length-take-le, inl, inr}
 use Rattle.std.proofs.lemmas.Bool.{cases_lt}
 use Rattle.std.proofs.lemmas.List.{get_or-append_right, get_or-replicate, get_or_append_left, length-replicate, replicate-append-replicate, take_more}
 use Rattle.def_plan.specs.Form.{InformationSet, PlacedSet, placed_from, sequence_count}
@@ -10,7 +11,12 @@ use Rattle.xg_seq.specs.Table.{EndsAt, KeepsSets, set_numbers_from, set_of_row}
 length-set_numbers_from : (k : ℕ) (rows : List SetPlace)
     → length (set_numbers_from k rows) ≡ total_actions (map set_of_row rows)
 length-set_numbers_from k [] = refl
-length-set_numbers_from k (row ∷ rows) = omega (arith, length-append (replicate row.actions k) (set_numbers_from (k + 1) rows), length-replicate row.actions k, length-set_numbers_from (k + 1) rows)
+length-set_numbers_from k (row ∷ rows) = omega (
+  arith,
+  length-append (replicate row.actions k) (set_numbers_from (k + 1) rows),
+  length-replicate row.actions k,
+  length-set_numbers_from (k + 1) rows,
+)
 
 -- a number is kept for each sequence but the empty one
 pub numbers_for_all : (rows : List SetPlace) (numbers : List ℕ) → KeepsSets rows numbers
@@ -62,7 +68,8 @@ ends_at rows numbers keeps sequence number some there read =
       from_one = omega (arith, found.is);
       there = omega (arith, found.is, found.there);
       first = λ d. subst (λ n. (get_or (placed_from 1 (map set_of_row rows)) n d).first ≤ sequence) (sym place) (omega (arith, found.from d));
-      end = λ d. subst (λ n. sequence < (get_or (placed_from 1 (map set_of_row rows)) n d).first + (get_or (placed_from 1 (map set_of_row rows)) n d).actions) (sym place) (omega (arith, found.end d));
+      end = λ d. subst (λ n. sequence < (get_or (placed_from 1 (map set_of_row rows)) n d).first + (get_or (placed_from 1 (map set_of_row rows)) n d).actions)
+          (sym place) (omega (arith, found.end d));
     }
 
 numbers-append : (k : ℕ) (rows : List SetPlace) (row : SetPlace)
@@ -80,7 +87,8 @@ pub numbers_more : (rows : List SetPlace) (i : ℕ) (d : SetPlace) → i < lengt
     ≡ set_numbers_from 1 (take i rows) ++ replicate (get_or rows i d).actions (i + 1)
 numbers_more rows i d there =
     let long : 1 + length (take i rows) ≡ i + 1 = omega (arith, length-take-le i rows (omega arith)) in
-    ap (set_numbers_from 1) (take_more rows i d there) ∙ numbers-append 1 (take i rows) (get_or rows i d) ∙ ap (λ n. set_numbers_from 1 (take i rows) ++ replicate (get_or rows i d).actions n) long
+    ap (set_numbers_from 1) (take_more rows i d there) ∙ numbers-append 1 (take i rows) (get_or rows i d)
+    ∙ ap (λ n. set_numbers_from 1 (take i rows) ++ replicate (get_or rows i d).actions n) long
 
 -- one more sequence of the set i
 pub one_more : (ns : List ℕ) (j n : ℕ) → (ns ++ replicate j n) ++ n ∷ [] ≡ ns ++ replicate (j + 1) n

@@ -1,5 +1,6 @@
 -- Rows that are placed in turn: what they tell of each set, and how one more is placed.
-use Rattle.std.proofs.Common.{◌≡◌, ℕ, zero, suc, ◌+◌, ◌-◌, ◌<◌, ◌≤◌, List, [], ◌∷◌, ◌++◌, All, length, get_or, take, drop, map, refl, ap, sym, subst, ◌∙◌, arith, Some, slice_get, take-append-drop}
+use Rattle.std.proofs.Common.{◌≡◌, ℕ, zero, suc, ◌+◌, ◌-◌, ◌<◌, ◌≤◌, List, [], ◌∷◌, ◌++◌, All, length, get_or, take, drop, map, refl, ap, sym, subst, ◌∙◌}
+use Rattle.std.proofs.Common.{arith, Some, slice_get, take-append-drop}
 use Rattle.std.specs.Option.{option_map}
 use Rattle.std.proofs.lemmas.List.{get_or-map, length-map, map-append, take_more}
 use Rattle.std.proofs.lemmas.List.Elements.{All-head, All-tail}
@@ -32,7 +33,13 @@ pub keeps_sets : (rows : List SetPlace) (numbers : List ℕ) (sets : List Inform
     → sequence_count sets ≤ most_sequences → HaveFewActions sets → KeepsSets rows numbers
 keeps_sets rows numbers sets same are order limit few =
     let sets_are : map set_of_row rows ≡ sets = sets_of_rows rows sets same in
-    record { places = same ∙ ap placed (sym sets_are); numbers = are; order = subst AreInOrder (sym sets_are) order; limit = omega (arith, limit, ap sequence_count sets_are); few_actions = subst HaveFewActions (sym sets_are) few }
+    record {
+      places = same ∙ ap placed (sym sets_are);
+      numbers = are;
+      order = subst AreInOrder (sym sets_are) order;
+      limit = omega (arith, limit, ap sequence_count sets_are);
+      few_actions = subst HaveFewActions (sym sets_are) few;
+    }
 
 -- what a row tells of its set stands at the set's place
 pub place_shows : (sets : List InformationSet) (f : InformationSet → ℕ) (i : ℕ) (h : PlacedSet)
@@ -47,7 +54,9 @@ placed-append : (first : ℕ) (sets : List InformationSet) (h : InformationSet)
 placed-append first [] h = let here : first ≡ first + 0 = omega arith in ap (λ n. record { first = n; before = h.before; actions = h.actions } ∷ []) here
 placed-append first (g ∷ gs) h =
     let there : first + g.actions + total_actions gs ≡ first + (g.actions + total_actions gs) = omega arith in
-    ap (λ hs. record { first = first; before = g.before; actions = g.actions } ∷ hs) (placed-append (first + g.actions) gs h ∙ ap (λ n. placed_from (first + g.actions) gs ++ record { first = n; before = h.before; actions = h.actions } ∷ []) there)
+    ap (λ hs. record { first = first; before = g.before; actions = g.actions } ∷ hs)
+    (placed-append (first + g.actions) gs h ∙ ap (λ n. placed_from (first + g.actions) gs ++ record { first = n; before = h.before; actions = h.actions }
+    ∷ []) there)
 
 inside_from : (first : ℕ) (sets : List InformationSet) (k : ℕ) (h : PlacedSet)
     → slice_get (placed_from first sets) k ≡ Some h → h.first + h.actions ≤ first + total_actions sets
@@ -109,7 +118,8 @@ module _ (sets : List InformationSet) (k a b : ℕ) (there : k < length sets)
   read : (f : InformationSet → ℕ) (n : ℕ) → slice_get (map f sets) (k + 1 - 1) ≡ Some n → f h ≡ n
   read f n got =
       let index : k + 1 - 1 ≡ k = omega arith in
-      sym (get_or-map f sets k (record { before = 0; actions = 0 }) 0 there) ∙ get_or_from_slice_get (map f sets) k n 0 (ap (slice_get (map f sets)) (sym index) ∙ got)
+      sym (get_or-map f sets k (record { before = 0; actions = 0 }) 0 there)
+      ∙ get_or_from_slice_get (map f sets) k n 0 (ap (slice_get (map f sets)) (sym index) ∙ got)
 
   more : take (k + 1) sets ≡ take k sets ++ h ∷ []
   more = take_more sets k (record { before = 0; actions = 0 }) there
@@ -124,7 +134,11 @@ module _ (sets : List InformationSet) (k a b : ℕ) (there : k < length sets)
       → StandFor sets (k + 1) (rows ++ record { first = first; before = b; actions = a } ∷ []) (first + a)
   stand_for_more rows first stand = record {
     places = map-append placed_of_row rows (record { first = first; before = b; actions = a } ∷ [])
-        ∙ (λ i. stand.places i ++ record { first = stand.next i; before = sym (read (λ g. g.before) b before) i; actions = sym (read (λ g. g.actions) a actions) i } ∷ [])
+        ∙ (λ i. stand.places i ++ record {
+          first = stand.next i;
+          before = sym (read (λ g. g.before) b before) i;
+          actions = sym (read (λ g. g.actions) a actions) i;
+        } ∷ [])
         ∙ sym (placed-append 1 (take k sets) h) ∙ ap placed (sym more);
     next = omega (arith, stand.next, count_more);
   }
@@ -132,4 +146,10 @@ module _ (sets : List InformationSet) (k a b : ℕ) (there : k < length sets)
   -- leaves no more sequences than there are
   pub sequences_last : (first : ℕ) → first ≡ sequence_count (take k sets) → first + a ≤ sequence_count sets
   sequences_last first is =
-      omega (arith, count_more, is, ap total_actions (take-append-drop (k + 1) sets), nat_sum_over-append (λ (g : InformationSet). g.actions) (take (k + 1) sets) (drop (k + 1) sets))
+      omega (
+        arith,
+        count_more,
+        is,
+        ap total_actions (take-append-drop (k + 1) sets),
+        nat_sum_over-append (λ (g : InformationSet). g.actions) (take (k + 1) sets) (drop (k + 1) sets),
+      )

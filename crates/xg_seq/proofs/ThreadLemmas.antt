@@ -1,5 +1,6 @@
 -- Threads that are linked from the last leaf to the first.
-use Rattle.std.proofs.Common.{◌≡◌, ℕ, suc, ◌+◌, ◌-◌, ◌<◌, ◌≤◌, ◌≢◌, All, Bool, true, false, cond, eqb, List, [], ◌∷◌, length, get_or, set, map, drop, refl, ap, sym, subst, ◌∙◌, arith, ⊎_elim, eq-eqb, get_or-set_other, get_or-set_same, Some, length-set}
+use Rattle.std.proofs.Common.{◌≡◌, ℕ, suc, ◌+◌, ◌-◌, ◌<◌, ◌≤◌, ◌≢◌, All, Bool, true, false, cond, eqb, List, [], ◌∷◌, length, get_or, set, map, drop, refl, ap}
+use Rattle.std.proofs.Common.{sym, subst, ◌∙◌, arith, ⊎_elim, eq-eqb, get_or-set_other, get_or-set_same, Some, length-set}
 use Rattle.std.specs.Prelude.{slice_index}
 use Rattle.std.proofs.Math.Seq.{drop-cons, drop-length}
 use Rattle.std.proofs.lemmas.Bool.{cases_eq, ne_eqb, cond-true, cond-false}
@@ -36,12 +37,14 @@ module _ (i s : ℕ) (player : Player) (leaves : List FormLeaf) (d : FormLeaf) (
 
   -- the leaf is the first of its own sequence
   own_first : first_leaf_from player s (i + 1) (drop i leaves) ≡ Some (i + 1)
-  own_first = with_more s ∙ cond-true (eqb (leaf_sequence player (get_or leaves i d)) s) (Some (i + 1)) (first_leaf_from player s (i + 1 + 1) (drop (i + 1) leaves)) (eq-eqb (leaf_sequence player (get_or leaves i d)) s (sym is))
+  own_first = with_more s ∙ cond-true (eqb (leaf_sequence player (get_or leaves i d)) s) (Some (i + 1))
+      (first_leaf_from player s (i + 1 + 1) (drop (i + 1) leaves)) (eq-eqb (leaf_sequence player (get_or leaves i d)) s (sym is))
 
   -- and the others begin behind it
   other_first : (t : ℕ) → s ≢ t
       → first_leaf_from player t (i + 1) (drop i leaves) ≡ first_leaf_from player t (i + 1 + 1) (drop (i + 1) leaves)
-  other_first t apart = with_more t ∙ cond-false (eqb (leaf_sequence player (get_or leaves i d)) t) (Some (i + 1)) (first_leaf_from player t (i + 1 + 1) (drop (i + 1) leaves)) (ne_eqb (leaf_sequence player (get_or leaves i d)) t (λ e. apart (is ∙ e)))
+  other_first t apart = with_more t ∙ cond-false (eqb (leaf_sequence player (get_or leaves i d)) t) (Some (i + 1))
+      (first_leaf_from player t (i + 1 + 1) (drop (i + 1) leaves)) (ne_eqb (leaf_sequence player (get_or leaves i d)) t (λ e. apart (is ∙ e)))
 
   own_sequence : sequence_of_leaf player (i + 1) leaves ≡ s
   own_sequence =
@@ -68,7 +71,8 @@ module _ (i s : ℕ) (player : Player) (leaves : List FormLeaf) (d : FormLeaf) (
         (λ here.
         ap (λ k. slice_index (set next i (slice_index first s)) k) here ∙ get_or-set_same next i (slice_index first s) 0 there
         ∙ linked.first_leaves s known
-        ∙ sym (ap (λ k. leaf_or_zero (next_leaf player (k + 1) leaves)) here ∙ ap (λ k. leaf_or_zero (first_leaf_from player k (i + 1 + 1) (drop (i + 1) leaves))) own_sequence))
+        ∙ sym (ap (λ k. leaf_or_zero (next_leaf player (k + 1) leaves)) here
+        ∙ ap (λ k. leaf_or_zero (first_leaf_from player k (i + 1 + 1) (drop (i + 1) leaves))) own_sequence))
         (λ apart.
         get_or-set_other next i j (slice_index first s) 0 apart ∙ linked.next_leaves j (later i j apart low) high)
         (cases_eq j i);

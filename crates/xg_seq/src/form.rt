@@ -1,5 +1,6 @@
 //! The sequence form of a game.
-ghost use Rattle.std.specs.Prelude.{◌≡◌, ◌+◌, ◌-◌, ◌<◌, ◌≤◌, length, map, sum, unsigned_abs, All, IfOk, Some, slice_get};
+ghost use Rattle.std.specs.Prelude.{◌≡◌, ◌+◌, ◌-◌, ◌<◌, ◌≤◌, length, map, sum, unsigned_abs, All, IfOk, Some};
+ghost use Rattle.std.specs.Prelude.{slice_get};
 ghost use Rattle.def_plan.specs.Form.{AreInOrder, placed, player_sets, sequence_count};
 ghost use Rattle.def_plan.specs.Payoff.{mass_of};
 ghost use Rattle.def_plan.specs.Threads.{first_leaf, next_leaf};
@@ -9,7 +10,8 @@ ghost use Rattle.def_sums.specs.Limits.{most_mass};
 ghost use Rattle.def_tree.specs.Rules.{most_nodes};
 ghost use Rattle.def_tree.specs.Tree.{leaf_count, prefix};
 ghost use Rattle.def_tree.specs.declared.Player.{Player};
-ghost use Rattle.xg_seq.specs.Leaves.{HasSequences, KeepsLeaves, form_action_counts, form_sequences_before, form_with, firsts_of, leaf_of};
+ghost use Rattle.xg_seq.specs.Leaves.{HasSequences, KeepsLeaves, form_action_counts, form_sequences_before, form_with};
+ghost use Rattle.xg_seq.specs.Leaves.{firsts_of, leaf_of};
 ghost use Rattle.xg_seq.specs.Table.{EndsAt, HaveFewActions, most_sequences, placed_of_row};
 ghost use Rattle.xg_seq.specs.Threads.{KeepsThreads};
 

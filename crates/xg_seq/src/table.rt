@@ -5,7 +5,8 @@ ghost use Rattle.xg_seq.specs.Table.{EndsAt, HaveFewActions, KeepsSets, most_seq
 
 use std::marker::Model;
 
-/// A set in its place: the first sequence that ends at it, its player's sequence before it, and how many actions it has.
+/// A set in its place: the first sequence that ends at it, its player's sequence before it, and how many actions it
+/// has.
 #[derive(Clone, Copy)]
 pub struct SetPlace {
     pub first: u32,

@@ -1,5 +1,6 @@
 -- What a node more does to the next nodes of those before it, and to the last nodes of sets.
-use Rattle.std.proofs.Common.{◌≡◌, ℕ, zero, suc, ◌+◌, ◌-◌, ◌<◌, ◌≤◌, Bool, true, false, cond, List, [], ◌∷◌, ◌++◌, length, get_or, map, set, refl, ap, sym, subst, ◌∙◌, arith, inl, inr, Some, None, length-append}
+use Rattle.std.proofs.Common.{◌≡◌, ℕ, zero, suc, ◌+◌, ◌-◌, ◌<◌, ◌≤◌, Bool, true, false, cond, List, [], ◌∷◌, ◌++◌, length, get_or, map, set, refl, ap, sym}
+use Rattle.std.proofs.Common.{subst, ◌∙◌, arith, inl, inr, Some, None, length-append}
 use Rattle.std.specs.Prelude.{Option}
 use Rattle.std.proofs.lemmas.Bool.{cases_lt}
 use Rattle.std.proofs.Math.ListN.{get_or-append}
@@ -93,11 +94,13 @@ joined_numbers k [] v p d personal there same later = absurd (omega arith)
 joined_numbers k (w ∷ ws) v zero d personal there same later =
     let alike = same_set w.node v.node same in
     let personal_w : is_personal w.node.kind ≡ true = ap is_personal alike.0 ∙ personal in
-    let others : (i : ℕ) (e : Visit) → i < length ws → is_same_set (get_or ws i e).node v.node ≡ false = λ i e inside. later (suc i) e (omega arith) (omega arith) in
+    let others : (i : ℕ) (e : Visit) → i < length ws → is_same_set (get_or ws i e).node v.node
+    ≡ false = λ i e inside. later (suc i) e (omega arith) (omega arith) in
     let far : k + 1 + length ws ≡ k + suc (length ws) = omega arith in
     let found : next_number (k + 1) w (ws ++ v ∷ []) ≡ Some (k + suc (length ws)) =
     ap (λ b. cond b (number_found (first_of_set (k + 1) w.node (ws ++ v ∷ []))) None) personal_w
-    ∙ ap number_found (first_after (k + 1) w.node ws v [] (λ i e inside. of_alike (get_or ws i e).node alike.0 alike.1 (others i e inside)) (is_same_set_by v.node w.node (sym alike.0) (sym alike.1)))
+    ∙ ap number_found (first_after (k + 1) w.node ws v [] (λ i e inside. of_alike (get_or ws i e).node alike.0 alike.1 (others i e inside))
+    (is_same_set_by v.node w.node (sym alike.0) (sym alike.1)))
     ∙ ap Some far in
     (λ i. found i ∷ quiet_numbers (k + 1) ws v (λ j e inside _. other_way (get_or ws j e).node v.node (others j e inside)) i)
   where
@@ -112,13 +115,14 @@ joined_numbers k (w ∷ ws) v (suc p) d personal there same later =
     ∙ ap (λ n. next_number (k + 1) w ws ∷ (set (next_numbers (k + 1) ws) p (Some n) ++ None ∷ [])) far
   where
     same_search : first_of_set (k + 1) w.node (ws ++ v ∷ []) ≡ first_of_set (k + 1) w.node ws
-    same_search = elim (is_same_set v.node w.node) as (λ b. is_same_set v.node w.node ≡ b → first_of_set (k + 1) w.node (ws ++ v ∷ []) ≡ first_of_set (k + 1) w.node ws) [
-      | true ↦ λ alike_test.
-          let alike = same_set v.node w.node alike_test in
-          let of_p = same_set (get_or ws p d).node v.node same in
-          search_ended (k + 1) w.node ws v p d (omega arith) (is_same_set_by (get_or ws p d).node w.node (of_p.0 ∙ alike.0) (of_p.1 ∙ alike.1))
-      | false ↦ λ other. search_goes_on (k + 1) w.node ws v other
-    ] refl
+    same_search = elim (is_same_set v.node w.node) as (λ b. is_same_set v.node w.node ≡ b → first_of_set (k + 1) w.node (ws ++ v ∷ [])
+        ≡ first_of_set (k + 1) w.node ws) [
+          | true ↦ λ alike_test.
+              let alike = same_set v.node w.node alike_test in
+              let of_p = same_set (get_or ws p d).node v.node same in
+              search_ended (k + 1) w.node ws v p d (omega arith) (is_same_set_by (get_or ws p d).node w.node (of_p.0 ∙ alike.0) (of_p.1 ∙ alike.1))
+          | false ↦ λ other. search_goes_on (k + 1) w.node ws v other
+        ] refl
 
 pub length-next_numbers : (k : ℕ) (vs : List Visit) → length (next_numbers k vs) ≡ length vs
 length-next_numbers k [] = refl
@@ -152,7 +156,8 @@ module _ (kind : Kind) (number : ℕ) (done : List Visit) (v : Visit) (last : �
       record {
         from_one = omega arith;
         there = omega arith;
-        is_in = λ d. subst (λ m. is_in_set kind number (get_or (done ++ v ∷ []) m d) ≡ true) at (ap (is_in_set kind number) (get_or-append_seam done v [] d) ∙ own);
+        is_in = λ d. subst (λ m. is_in_set kind number (get_or (done ++ v ∷ []) m d) ≡ true) at
+            (ap (is_in_set kind number) (get_or-append_seam done v [] d) ∙ own);
         later = λ j d after inside. absurd (omega arith);
       }
 

@@ -1,5 +1,6 @@
 -- A node is noted in its set's row, or begins the next set; and recall breaks there exactly where the row says so.
-use Rattle.std.proofs.Common.{◌≡◌, ◌≢◌, ℕ, ◌+◌, ◌-◌, ◌^◌, ◌<◌, ◌≤◌, Bool, true, false, cond, not, ◌&&◌, List, [], ◌∷◌, ◌++◌, length, get_or, take, drop, map, set, refl, ap, sym, subst, ◌∙◌, arith, inl, inr, Some, None, Ok, Err, append-nil, length-append, slice_get}
+use Rattle.std.proofs.Common.{◌≡◌, ◌≢◌, ℕ, ◌+◌, ◌-◌, ◌^◌, ◌<◌, ◌≤◌, Bool, true, false, cond, not, ◌&&◌, List, [], ◌∷◌, ◌++◌, length, get_or, take, drop, map}
+use Rattle.std.proofs.Common.{set, refl, ap, sym, subst, ◌∙◌, arith, inl, inr, Some, None, Ok, Err, append-nil, length-append, slice_get}
 use Rattle.std.specs.Prelude.{Option, Result, nat_eq, sum}
 use Rattle.std.proofs.lemmas.Bool.{cases_lt, eq-eqb, ne_eqb}
 use Rattle.std.proofs.lemmas.List.{length-map, length-take, map-append, take-append-drop}
@@ -35,7 +36,8 @@ use Rattle.xg_sets.specs.declared.table.FoundSet.{FoundSet}
 use Rattle.xg_sets.specs.Entered.{AreAt, AreAtFirstChild, AreTablesOf, FindsBreak, IsAtFirstChild, IsFirstNode, IsLastNode, IsRowOf, IsTableUpTo}
 use Rattle.xg_sets.specs.Table.{BeginsSet, JoinsRow, LastIsThere, Notes, NotesIn, SetsUpTo, with_last, with_set}
 use Rattle.xg_sets.specs.OfPlayer.{set_in_row}
-use Rattle.xg_sets.proofs.NextNodeLemmas.{apart, each_row, first_after, joined_numbers, last_kept, last_new, length-next_numbers, map_kept, not_true, other_way, quiet_numbers}
+use Rattle.xg_sets.proofs.NextNodeLemmas.{apart, each_row, first_after, joined_numbers, last_kept, last_new, length-next_numbers, map_kept, not_true, other_way}
+use Rattle.xg_sets.proofs.NextNodeLemmas.{quiet_numbers}
 
 abbrev pub put : SetsUpTo → ℕ → SetsUpTo
 put table sequence = record table { at_nodes = table.at_nodes ++ sequence ∷ [] }
@@ -141,7 +143,8 @@ module _ (tree : Forest) (kind : Kind) (game : IsGameTree tree) (inner : is_leaf
       let there : n < length all = next.there in
       let parts : all ≡ done ++ v ∷ drop (n + 1) all = sym (take-append-drop n all) ∙ ap (λ vs. done ++ vs) next.cons in
       let number : 1 + length done ≡ n + 1 = omega (arith, length-take n all) in
-      ap (first_of_set 1 x) parts ∙ first_after 1 x done v (drop (n + 1) all) (others x kinds sets) same ∙ ap (λ m. Some (record { number = m; visit = v })) number
+      ap (first_of_set 1 x) parts ∙ first_after 1 x done v (drop (n + 1) all) (others x kinds sets) same
+      ∙ ap (λ m. Some (record { number = m; visit = v })) number
 
   row_stands : (table : SetsUpTo) (s : ℕ) → IsTableUpTo tree kind n table → v.node.kind ≡ kind
       → v.node.set ≡ length firsts + 1 → s ≡ sequence_at kind tree v →
@@ -168,16 +171,19 @@ module _ (tree : Forest) (kind : Kind) (game : IsGameTree tree) (inner : is_leaf
       → v.node.set ≡ length firsts + 1 → s ≡ sequence_at kind tree v
       → IsTableUpTo tree kind (n + 1) (put (with_set table (n + 1) v.node s) s)
   new_stands table s stands is set sequence =
-      let first : begins ≡ true = ap (λ b. b && nat_eq v.node.set (length firsts + 1)) (is_same_kind_self kind v.node.kind is) ∙ eq-eqb v.node.set (length firsts + 1) set in
+      let first : begins ≡ true = ap (λ b. b && nat_eq v.node.set (length firsts + 1)) (is_same_kind_self kind v.node.kind is)
+      ∙ eq-eqb v.node.set (length firsts + 1) set in
       let more : set_firsts kind 0 (take (n + 1) all) ≡ firsts ++ v ∷ [] = firsts_new first in
       let row : FoundSet = record { first = table.next; before = s; actions = v.node.children; node = n + 1; last = n + 1 } in
-      let next_sizes : sizes_so_far kind (take (n + 1) all) ≡ sizes ++ v.node.children ∷ [] = ap (map (λ (w : Visit). w.node.children)) more ∙ map-append (λ (w : Visit). w.node.children) firsts (v ∷ []) in
+      let next_sizes : sizes_so_far kind (take (n + 1) all) ≡ sizes ++ v.node.children ∷ [] = ap (map (λ (w : Visit). w.node.children)) more
+      ∙ map-append (λ (w : Visit). w.node.children) firsts (v ∷ []) in
       let next_is : table.next ≡ 1 + sum sizes = stands.next in
       let rows : length table.rows ≡ length firsts = rows_count table stands in
       let many : length sizes ≡ length firsts = length-map firsts (λ (w : Visit). w.node.children) in
       let number : n + 1 ≡ first_number tree v = ap number_or_zero (sym (found_new v.node is (omega arith) (is_same_set_by v.node v.node refl refl))) in
       record {
-        nodes = map-append (λ (r : FoundSet). r.node) table.rows (row ∷ []) ∙ (λ i. stands.nodes i ++ number i ∷ []) ∙ sym (map-append (first_number tree) firsts (v ∷ [])) ∙ ap (map (first_number tree)) (sym more);
+        nodes = map-append (λ (r : FoundSet). r.node) table.rows (row ∷ []) ∙ (λ i. stands.nodes i ++ number i ∷ [])
+            ∙ sym (map-append (first_number tree) firsts (v ∷ [])) ∙ ap (map (first_number tree)) (sym more);
         lasts = λ i d there. elim (cases_lt i (length table.rows)) [
           | inl below ↦
               let ne : v.node.set ≢ i + 1 = λ e. absurd (omega arith) in
@@ -193,7 +199,8 @@ module _ (tree : Forest) (kind : Kind) (game : IsGameTree tree) (inner : is_leaf
               (subst (λ (r : FoundSet). IsLastNode kind (i + 1) (done ++ v ∷ []) r.last) (sym (get_or-append_seam table.rows row [] d))
               (last_new kind (i + 1) done v (n + 1) long (in_it (i + 1) is index))))
         ];
-        sets = map-append set_in_row table.rows (row ∷ []) ∙ (λ i. stands.sets i ++ record { before = sequence i; actions = v.node.children } ∷ []) ∙ sym (map-append (set_of_visit kind tree) firsts (v ∷ [])) ∙ ap (map (set_of_visit kind tree)) (sym more);
+        sets = map-append set_in_row table.rows (row ∷ []) ∙ (λ i. stands.sets i ++ record { before = sequence i; actions = v.node.children } ∷ [])
+            ∙ sym (map-append (set_of_visit kind tree) firsts (v ∷ [])) ∙ ap (map (set_of_visit kind tree)) (sym more);
         each = λ i d there. elim (cases_lt i (length table.rows)) [
           | inl below ↦ subst (IsRowOf tree kind (i + 1)) (sym (get_or-append table.rows (row ∷ []) d i below)) (stands.each i d below)
           | inr past ↦
@@ -214,7 +221,8 @@ module _ (tree : Forest) (kind : Kind) (game : IsGameTree tree) (inner : is_leaf
       → break_against (differ_in_number tree) (n + 1) v (Some first) ≡ None
   same_numbers first e =
       let broken : Option RecallBreak = Some (record { node = n + 1; earlier = first.number }) in
-      ap (λ b. cond (is_personal v.node.kind && not b) broken None) (eq-eqb (sequence_at first.visit.node.kind tree first.visit) (sequence_at v.node.kind tree v) e)
+      ap (λ b. cond (is_personal v.node.kind && not b) broken None) (eq-eqb (sequence_at first.visit.node.kind tree first.visit)
+      (sequence_at v.node.kind tree v) e)
       ∙ ap (λ b. cond b broken None) (and_false (is_personal v.node.kind) false refl)
 
   other_numbers : (first : Numbered) → is_personal v.node.kind ≡ true
@@ -241,7 +249,8 @@ module _ (tree : Forest) (kind : Kind) (game : IsGameTree tree) (inner : is_leaf
   set_of_node : v.node.kind ≡ kind → (1 ≤ v.node.set) × (v.node.set ≤ length firsts + 1)
   set_of_node is =
       let knows : KnowsSizes kind (map visited_node done) sizes = known_so_far tree kind game inner n in
-      let joins : JoinsSet (map visited_node done) v.node = joins_of kind (map visited_node done) v.node inner is (subst (λ k. FitsAs k (map visited_node done) v.node) is next.fits) in
+      let joins : JoinsSet (map visited_node done) v.node = joins_of kind (map visited_node done) v.node inner is
+      (subst (λ k. FitsAs k (map visited_node done) v.node) is next.fits) in
       let known : v.node.set ≤ set_count kind (map visited_node done) + 1 = subst (λ k. v.node.set ≤ set_count k (map visited_node done) + 1) is joins.next in
       let count : length sizes ≡ set_count kind (map visited_node done) = knows.count in
       let many : length sizes ≡ length firsts = length-map firsts (λ (w : Visit). w.node.children) in
@@ -263,7 +272,8 @@ module _ (tree : Forest) (kind : Kind) (game : IsGameTree tree) (inner : is_leaf
       record {
         stands = subst (λ t. IsTableUpTo tree kind (n + 1) (put t s)) (sym new_is) (new_stands table s stands is set sequence);
         first_is = first_is ∙ row.first ∙ ap (first_sequence (set_sizes kind tree)) index;
-        none = ap (break_against (differ_in_number tree) (n + 1) v) (found_new v.node is (omega arith) (is_same_set_by v.node v.node refl refl)) ∙ same_numbers (record { number = n + 1; visit = v }) refl;
+        none = ap (break_against (differ_in_number tree) (n + 1) v) (found_new v.node is (omega arith) (is_same_set_by v.node v.node refl refl))
+            ∙ same_numbers (record { number = n + 1; visit = v }) refl;
         next_are = ap (λ xs. xs ++ None ∷ []) (same ∙ known_next)
             ∙ sym (quiet_numbers 1 done v (λ i d inside _. other_way (get_or done i d).node v.node (others v.node is (omega arith) i d inside)))
             ∙ ap (next_numbers 1) (sym next.taken);
@@ -282,7 +292,8 @@ module _ (tree : Forest) (kind : Kind) (game : IsGameTree tree) (inner : is_leaf
       let counts : 1 ≤ v.node.set = (set_of_node is).0 in
       let set : v.node.set ≡ v.node.set - 1 + 1 = omega arith in
       let stood : IsRowOf tree kind (v.node.set - 1 + 1) row =
-      subst (IsRowOf tree kind (v.node.set - 1 + 1)) (get_or_from_slice_get table.rows (v.node.set - 1) row row read) (stands.each (v.node.set - 1) row (is_read table.rows (v.node.set - 1) row read)) in
+      subst (IsRowOf tree kind (v.node.set - 1 + 1)) (get_or_from_slice_get table.rows (v.node.set - 1) row row read)
+      (stands.each (v.node.set - 1) row (is_read table.rows (v.node.set - 1) row read)) in
       record {
         first = stood.first ∙ ap (first_sequence (set_sizes kind tree)) (sym set);
         node = stood.node v.node is set;
@@ -308,10 +319,14 @@ module _ (tree : Forest) (kind : Kind) (game : IsGameTree tree) (inner : is_leaf
       record {
         sets = map_kept set_in_row table.rows place new_row row (ap set_in_row (sym read_is)) ∙ stands.sets ∙ ap (map (set_of_visit kind tree)) same;
         each = each_row (λ j r. IsRowOf tree kind (j + 1) r) table.rows place new_row (with_other_last row stood) (λ j d inside _. stands.each j d inside);
-        nodes = map_kept (λ (r : FoundSet). r.node) table.rows place new_row row (ap (λ (r : FoundSet). r.node) (sym read_is)) ∙ stands.nodes ∙ ap (map (first_number tree)) same;
-        lasts = subst (λ vs. (i : ℕ) (d : FoundSet) → i < length (set table.rows place new_row) → IsLastNode kind (i + 1) vs (get_or (set table.rows place new_row) i d).last) (sym next.taken)
-            (each_row (λ j r. IsLastNode kind (j + 1) (done ++ v ∷ []) r.last) table.rows place new_row (last_new kind (place + 1) done v (n + 1) long (in_it (place + 1) is index))
-            (λ j d inside differs. last_kept kind (j + 1) done v (get_or table.rows j d).last (stands.lasts j d inside) (not_in_it (j + 1) (λ e. differs (omega arith)))));
+        nodes = map_kept (λ (r : FoundSet). r.node) table.rows place new_row row (ap (λ (r : FoundSet). r.node) (sym read_is)) ∙ stands.nodes
+            ∙ ap (map (first_number tree)) same;
+        lasts = subst (λ vs. (i : ℕ) (d : FoundSet) → i < length (set table.rows place new_row)
+            → IsLastNode kind (i + 1) vs (get_or (set table.rows place new_row) i d).last) (sym next.taken)
+            (each_row (λ j r. IsLastNode kind (j + 1) (done ++ v ∷ []) r.last) table.rows place new_row
+            (last_new kind (place + 1) done v (n + 1) long (in_it (place + 1) is index))
+            (λ j d inside differs. last_kept kind (j + 1) done v (get_or table.rows j d).last (stands.lasts j d inside)
+            (not_in_it (j + 1) (λ e. differs (omega arith)))));
         next = stands.next ∙ ap (λ vs. 1 + sum (map (λ (w : Visit). w.node.children) vs)) same;
         at_nodes = put_more table s stands.at_nodes sequence;
       }
@@ -331,9 +346,11 @@ module _ (tree : Forest) (kind : Kind) (game : IsGameTree tree) (inner : is_leaf
       let from_one : 1 ≤ row.last = last.from_one in
       let there : row.last ≤ length done = last.there in
       let count : n + 1 ≡ 1 + length done = omega (arith, count_done) in
-      let as_its_kind : (b : Bool) (w : Visit) → is_in_set kind v.node.set w ≡ b → is_same_set w.node v.node ≡ b = λ b w h. subst (λ k. is_in_set k v.node.set w ≡ b) (sym is) h in
+      let as_its_kind : (b : Bool) (w : Visit) → is_in_set kind v.node.set w ≡ b → is_same_set w.node v.node
+      ≡ b = λ b w h. subst (λ k. is_in_set k v.node.set w ≡ b) (sym is) h in
       (λ i. set (known i) (row.last - 1) (Some (count i)) ++ None ∷ [])
-      ∙ sym (joined_numbers 1 done v (row.last - 1) v (ap is_personal is ∙ personal) (omega arith) (as_its_kind true (get_or done (row.last - 1) v) (last.is_in v))
+      ∙ sym (joined_numbers 1 done v (row.last - 1) v (ap is_personal is ∙ personal) (omega arith)
+      (as_its_kind true (get_or done (row.last - 1) v) (last.is_in v))
       (λ j e after inside. as_its_kind false (get_or done j e) (last.later j e (omega arith) inside)))
       ∙ ap (next_numbers 1) (sym next.taken)
 
@@ -348,7 +365,8 @@ module _ (tree : Forest) (kind : Kind) (game : IsGameTree tree) (inner : is_leaf
       let counts : 1 ≤ v.node.set = (set_of_node is).0 in
       let there : v.node.set - 1 < length table.rows = is_read table.rows (v.node.set - 1) row read in
       let ne : v.node.set ≢ length firsts + 1 = λ e. absurd (omega arith) in
-      let other : begins ≡ false = and_false (is_same_kind kind v.node.kind) (nat_eq v.node.set (length firsts + 1)) (ne_eqb v.node.set (length firsts + 1) ne) in
+      let other : begins ≡ false = and_false (is_same_kind kind v.node.kind) (nat_eq v.node.set (length firsts + 1))
+      (ne_eqb v.node.set (length firsts + 1) ne) in
       let held = its_row is table row stands read in
       let w : Visit = held.node.0 in
       let numbers_agree : sequence_at w.node.kind tree w ≡ sequence_at v.node.kind tree v =
@@ -375,7 +393,8 @@ module _ (tree : Forest) (kind : Kind) (game : IsGameTree tree) (inner : is_leaf
       → s ≡ sequence_at kind tree v → Notes table (n + 1) v.node s new result numbers new_next
       → AnswersNoting new s result new_next
   after_note personal is table s new result numbers new_next stands known_next sequence notes =
-      elim (slice_get table.rows (v.node.set - 1)) as (λ o. slice_get table.rows (v.node.set - 1) ≡ o → NotesIn o table (n + 1) v.node s new result numbers new_next → AnswersNoting new s result new_next) [
+      elim (slice_get table.rows (v.node.set - 1)) as (λ o. slice_get table.rows (v.node.set - 1) ≡ o
+      → NotesIn o table (n + 1) v.node s new result numbers new_next → AnswersNoting new s result new_next) [
         | None ↦ λ past h. begun is table s new numbers new_next stands sequence (not_read table.rows (v.node.set - 1) past) known_next result h.0 h.1
         | Some row ↦ λ read h. joined personal is table s new row numbers new_next stands sequence read known_next result h
       ] refl notes
@@ -422,13 +441,15 @@ module _ (tree : Forest) (game : IsGameTree tree) (n : ℕ) (v : Visit) (next : 
   not_personal : is_personal v.node.kind ≡ false → (o : Option Numbered)
       → break_against (differ_in_number tree) (n + 1) v o ≡ None
   not_personal other None = refl
-  not_personal other (Some first) = ap (λ p. cond (p && differ_in_number tree first.visit v) (Some (record { node = n + 1; earlier = first.number })) None) other
+  not_personal other (Some first) = ap (λ p. cond (p && differ_in_number tree first.visit v) (Some (record { node = n + 1; earlier = first.number })) None)
+      other
 
   -- a kind that doesn't move at the node
   quiet : (kind : Kind) → is_leaf_kind kind ≡ false → is_same_kind kind v.node.kind ≡ false → (table : SetsUpTo) (s : ℕ)
       → IsTableUpTo tree kind n table → s ≡ sequence_at kind tree v → IsTableUpTo tree kind (n + 1) (put table s)
   quiet kind inner other table s stands sequence =
-      quiet_stands tree kind game inner n v next table s stands (ap (λ b. b && nat_eq v.node.set (length (set_firsts kind 0 (take n (visits tree))) + 1)) other) sequence
+      quiet_stands tree kind game inner n v next table s stands (ap (λ b. b && nat_eq v.node.set (length (set_firsts kind 0 (take n (visits tree))) + 1)) other)
+      sequence
       (λ i d inside. last_kept kind (i + 1) (take n (visits tree)) v (get_or table.rows i d).last (stands.lasts i d inside)
       (other_kind kind v.node (record v.node { kind = kind; set = i + 1 }) refl other))
 
@@ -552,7 +573,8 @@ module _ (tree : Forest) (game : IsGameTree tree) (n : ℕ) (there : n < node_co
       → IsTableUpTo tree kind n table → numbers ≡ next_numbers 1 (take n (visits tree))
       → LastIsThere (slice_get table.rows (x.set - 1)) numbers
   last_at kind inner is table numbers stands known =
-      subst (λ y. LastIsThere (slice_get table.rows (y.set - 1)) numbers) is_node (last_there tree kind game inner n v next (ap (λ y. y.kind) is_node ∙ is) table numbers stands known)
+      subst (λ y. LastIsThere (slice_get table.rows (y.set - 1)) numbers) is_node
+      (last_there tree kind game inner n v next (ap (λ y. y.kind) is_node ∙ is) table numbers stands known)
 
   -- the first sequence of a table's next set, with as many more as the node has children, is below 2 ^ 32
   pub room_at : (kind : Kind) → is_leaf_kind kind ≡ false → (table : SetsUpTo) → IsTableUpTo tree kind n table
@@ -565,7 +587,8 @@ module _ (tree : Forest) (game : IsGameTree tree) (n : ℕ) (there : n < node_co
       → AreAt tree v.path at → Notes one (n + 1) x at.one new (Ok first) numbers new_next →
       AreTablesOf tree (n + 1) (put new at.one) (put two at.two) (new_next ++ None ∷ []) × AreAtFirstChild tree v (record { one = first; two = at.two })
   noted_one_at is one two new at first numbers new_next stand are notes =
-      noted_one tree game n v next (ap (λ y. y.kind) is_node ∙ is) one two new at first numbers new_next stand are (subst (λ y. Notes one (n + 1) y at.one new (Ok first) numbers new_next) (sym is_node) notes)
+      noted_one tree game n v next (ap (λ y. y.kind) is_node ∙ is) one two new at first numbers new_next stand are
+      (subst (λ y. Notes one (n + 1) y at.one new (Ok first) numbers new_next) (sym is_node) notes)
 
   -- with player two's node noted, the tables are those of one node more, and its first child has the answered sequence
   pub noted_two_at : x.kind ≡ Two → (one two new : SetsUpTo) (at : Sequences) (first : ℕ) (numbers new_next : List (Option ℕ))
@@ -573,7 +596,8 @@ module _ (tree : Forest) (game : IsGameTree tree) (n : ℕ) (there : n < node_co
       → AreAt tree v.path at → Notes two (n + 1) x at.two new (Ok first) numbers new_next →
       AreTablesOf tree (n + 1) (put one at.one) (put new at.two) (new_next ++ None ∷ []) × AreAtFirstChild tree v (record { one = at.one; two = first })
   noted_two_at is one two new at first numbers new_next stand are notes =
-      noted_two tree game n v next (ap (λ y. y.kind) is_node ∙ is) one two new at first numbers new_next stand are (subst (λ y. Notes two (n + 1) y at.two new (Ok first) numbers new_next) (sym is_node) notes)
+      noted_two tree game n v next (ap (λ y. y.kind) is_node ∙ is) one two new at first numbers new_next stand are
+      (subst (λ y. Notes two (n + 1) y at.two new (Ok first) numbers new_next) (sym is_node) notes)
 
   -- where no player moves, the tables with the sequences there are those of one node more, and its first child has them
   pub quiet_at : is_personal x.kind ≡ false → (one two : SetsUpTo) (at : Sequences) (numbers : List (Option ℕ))
@@ -597,7 +621,8 @@ module _ (tree : Forest) (game : IsGameTree tree) (n : ℕ) (there : n < node_co
       → Notes one (n + 1) x at.one new (Err fault) numbers new_next
       → FindsBreak tree fault
   broken_one_at is one two new at fault numbers new_next stand are notes =
-      broken_one tree game n v next (ap (λ y. y.kind) is_node ∙ is) one two new at fault numbers new_next stand are (subst (λ y. Notes one (n + 1) y at.one new (Err fault) numbers new_next) (sym is_node) notes)
+      broken_one tree game n v next (ap (λ y. y.kind) is_node ∙ is) one two new at fault numbers new_next stand are
+      (subst (λ y. Notes one (n + 1) y at.one new (Err fault) numbers new_next) (sym is_node) notes)
 
   -- where a node of player two can't be noted, a break of recall that is answered is the first, by numbers
   pub broken_two_at : x.kind ≡ Two → (one two new : SetsUpTo) (at : Sequences) (fault : RecallFault)
@@ -605,4 +630,5 @@ module _ (tree : Forest) (game : IsGameTree tree) (n : ℕ) (there : n < node_co
       → Notes two (n + 1) x at.two new (Err fault) numbers new_next
       → FindsBreak tree fault
   broken_two_at is one two new at fault numbers new_next stand are notes =
-      broken_two tree game n v next (ap (λ y. y.kind) is_node ∙ is) one two new at fault numbers new_next stand are (subst (λ y. Notes two (n + 1) y at.two new (Err fault) numbers new_next) (sym is_node) notes)
+      broken_two tree game n v next (ap (λ y. y.kind) is_node ∙ is) one two new at fault numbers new_next stand are
+      (subst (λ y. Notes two (n + 1) y at.two new (Err fault) numbers new_next) (sym is_node) notes)

@@ -1,6 +1,7 @@
 -- A walk through the trees at a node's actions, below the movers around it, finds the first break of recall, or notes all
 -- nodes.
-use Rattle.std.proofs.Common.{◌≡◌, ℕ, ◌+◌, ◌-◌, ◌<◌, ◌≤◌, true, false, cond, List, [], ◌∷◌, ◌++◌, drop, refl, ap, sym, subst, ◌∙◌, arith, append-nil, Some, None}
+use Rattle.std.proofs.Common.{◌≡◌, ℕ, ◌+◌, ◌-◌, ◌<◌, ◌≤◌, true, false, cond, List, [], ◌∷◌, ◌++◌, drop, refl, ap, sym, subst, ◌∙◌, arith, append-nil, Some}
+use Rattle.std.proofs.Common.{None}
 use Rattle.std.specs.Prelude.{Option, sum}
 use Rattle.def_tree.specs.declared.Kind.{Kind}
 use Rattle.def_tree.specs.declared.Kind.TheVariants.{Chance, One, Two, Leaf}
@@ -109,7 +110,8 @@ module _ (tree : Forest) (game : IsGameTree tree) where
   -- and at the child after another
   next_number : (kind : Kind) (node : Node) (path : List Move) (a : ℕ) → 1 ≤ a
       →
-      path_number kind tree (record { node = node; action = a } ∷ path) + cond (is_same_kind kind node.kind) 1 0 ≡ path_number kind tree (record { node = node; action = a + 1 } ∷ path)
+      path_number kind tree (record { node = node; action = a } ∷ path) + cond (is_same_kind kind node.kind) 1 0
+      ≡ path_number kind tree (record { node = node; action = a + 1 } ∷ path)
   next_number kind node path a some =
       elim (is_same_kind kind node.kind) as (λ b.
       sequence_number (set_sizes kind tree) (cond b (record { set = node.set; action = a } ∷ own_choices kind path) (own_choices kind path)) + cond b 1 0
@@ -123,8 +125,10 @@ module _ (tree : Forest) (game : IsGameTree tree) where
       sequences_after node.kind (sequences_on (record { node = node; action = a } ∷ path)) ≡ sequences_on (record { node = node; action = a + 1 } ∷ path)
   sequences_follow node path a some =
       let at : Sequences = sequences_on (record { node = node; action = a } ∷ path) in
-      let one : (sequences_after node.kind at).one ≡ path_number One tree (record { node = node; action = a + 1 } ∷ path) = one_after node.kind at ∙ next_number One node path a some in
-      let two : (sequences_after node.kind at).two ≡ path_number Two tree (record { node = node; action = a + 1 } ∷ path) = two_after node.kind at ∙ next_number Two node path a some in
+      let one : (sequences_after node.kind at).one ≡ path_number One tree (record { node = node; action = a + 1 } ∷ path) = one_after node.kind at
+      ∙ next_number One node path a some in
+      let two : (sequences_after node.kind at).two ≡ path_number Two tree (record { node = node; action = a + 1 } ∷ path) = two_after node.kind at
+      ∙ next_number Two node path a some in
       λ i. record { one = one i; two = two i }
 
   abbrev place_below : Place → Node → Forest → Place
@@ -194,7 +198,13 @@ module _ (tree : Forest) (game : IsGameTree tree) where
 
       may_come_next : MayComeNext building.tree.now (n + 1) building
       may_come_next =
-          let known : MayComeNext tree (n + 1) building = record { rules = game; from_one = omega arith; there = omega (arith, there); tables = tables_before; at = are_at } in
+          let known : MayComeNext tree (n + 1) building = record {
+            rules = game;
+            from_one = omega arith;
+            there = omega (arith, there);
+            tables = tables_before;
+            at = are_at;
+          } in
           subst (λ t. MayComeNext t (n + 1) building) (sym same) known
 
       goes_below : (new : Building) → HasEntered building.tree.now (n + 1) x building new
@@ -299,7 +309,8 @@ module _ (tree : Forest) (game : IsGameTree tree) where
       by_fault : (fault : Option RecallFault) → OrFault fault (GoesOn n innermost outer visitor.building)
           → OrFault fault (AreTablesOf tree (node_count tree) visitor.building.tables.one visitor.building.tables.two visitor.building.tables.next_nodes)
       by_fault (Some fault) stands = stands
-      by_fault None stands = subst (λ m. AreTablesOf tree m visitor.building.tables.one visitor.building.tables.two visitor.building.tables.next_nodes) last stands.tables
+      by_fault None stands = subst (λ m. AreTablesOf tree m visitor.building.tables.one visitor.building.tables.two visitor.building.tables.next_nodes) last
+          stands.tables
 
   -- the walk through the whole tree
   pub whole_walk : (visitor : SetVisitor) → IsBefore tree visitor → Runs (events_from 1 tree) visitor

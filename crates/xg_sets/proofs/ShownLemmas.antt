@@ -19,7 +19,8 @@ use Rattle.def_game_paths.proofs.Numbers.{numbers_find_the_break}
 use Rattle.def_game_paths.proofs.Coming.{length-visits}
 use Rattle.def_plan.specs.Form.{InformationSet}
 use Rattle.def_sequence_form.specs.Form.{information_sets}
-use Rattle.def_sequence_form.specs.Sets.{TreeSets, first_nodes, first_number, next_nodes, next_numbers, sets_with_nodes, sets_or_break, tree_sets, unless_broken}
+use Rattle.def_sequence_form.specs.Sets.{TreeSets, first_nodes, first_number, next_nodes, next_numbers, sets_with_nodes, sets_or_break, tree_sets}
+use Rattle.def_sequence_form.specs.Sets.{unless_broken}
 use Rattle.def_sequence_form.proofs.Nodes.{sets_are_exact}
 use Rattle.def_sequence_form.proofs.Sets.{set_of_visit}
 use Rattle.xg_sets.specs.declared.building.RecallFault.{RecallFault}
@@ -41,7 +42,14 @@ abbrev pub no_sets : SetsUpTo
 no_sets = record { rows = []; at_nodes = []; next = 1 }
 
 table_starts : (tree : Forest) (kind : Kind) → IsTableUpTo tree kind 0 no_sets
-table_starts tree kind = record { sets = refl; each = λ i d there. absurd (omega arith); nodes = refl; lasts = λ i d there. absurd (omega arith); next = refl; at_nodes = refl }
+table_starts tree kind = record {
+  sets = refl;
+  each = λ i d there. absurd (omega arith);
+  nodes = refl;
+  lasts = λ i d there. absurd (omega arith);
+  next = refl;
+  at_nodes = refl;
+}
 
 -- before the first node no set has come
 pub tables_start : (tree : Forest) → AreTablesOf tree 0 no_sets no_sets []
@@ -57,7 +65,8 @@ tells_break tree game (NotRecall node earlier) found = ap (λ o. unless_broken o
 pub is_first_break : (tree : Forest) → IsGameTree tree → (fault : RecallFault) → FindsBreak tree fault
     → IsFirstBreakOf tree fault
 is_first_break tree game NoMemory found = tt
-is_first_break tree game (NotRecall node earlier) found = λ d. break_first tree d (record { node = node; earlier = earlier }) (sym (numbers_find_the_break tree game) ∙ found)
+is_first_break tree game (NotRecall node earlier) found = λ d. break_first tree d (record { node = node; earlier = earlier })
+    (sym (numbers_find_the_break tree game) ∙ found)
 
 module _ (tree : Forest) (game : IsGameTree tree) (n : ℕ) (last : n ≡ node_count tree) where
   all_taken : take n (visits tree) ≡ visits tree
@@ -66,9 +75,11 @@ module _ (tree : Forest) (game : IsGameTree tree) (n : ℕ) (last : n ≡ node_c
   table_shows : (kind : Kind) (table : SetsUpTo) → IsTableUpTo tree kind n table
       → as_player_sets table ≡ sets_with_nodes kind tree
   table_shows kind table stands =
-      let sets : map set_in_row table.rows ≡ information_sets kind tree = stands.sets ∙ ap (λ vs. map (set_of_visit kind tree) (set_firsts kind 0 vs)) all_taken in
+      let sets : map set_in_row table.rows ≡ information_sets kind tree = stands.sets
+      ∙ ap (λ vs. map (set_of_visit kind tree) (set_firsts kind 0 vs)) all_taken in
       let at_nodes : table.at_nodes ≡ map (sequence_at kind tree) (visits tree) = stands.at_nodes ∙ ap (map (sequence_at kind tree)) all_taken in
-      let nodes : map (λ (row : FoundSet). row.node) table.rows ≡ first_nodes kind tree = stands.nodes ∙ ap (λ vs. map (first_number tree) (set_firsts kind 0 vs)) all_taken in
+      let nodes : map (λ (row : FoundSet). row.node) table.rows ≡ first_nodes kind tree = stands.nodes
+      ∙ ap (λ vs. map (first_number tree) (set_firsts kind 0 vs)) all_taken in
       λ i. record { sets = sets i; first_nodes = nodes i; at_nodes = at_nodes i }
 
   -- a table of all nodes has 1048576 rows at most
@@ -78,13 +89,22 @@ module _ (tree : Forest) (game : IsGameTree tree) (n : ℕ) (last : n ≡ node_c
       let few = sequences_are_few tree game kind inner in
       let limit : node_count tree ≤ 1048576 = game.limit in
       let firsts : List Visit = set_firsts kind 0 (visits tree) in
-      let sets : map set_in_row table.rows ≡ map (set_of_visit kind tree) firsts = stands.sets ∙ ap (λ vs. map (set_of_visit kind tree) (set_firsts kind 0 vs)) all_taken in
-      omega (arith, few.few_sets, length-map firsts (λ (w : Visit). w.node.children), length-map firsts (set_of_visit kind tree), length-map table.rows set_in_row, ap length sets)
+      let sets : map set_in_row table.rows ≡ map (set_of_visit kind tree) firsts = stands.sets
+      ∙ ap (λ vs. map (set_of_visit kind tree) (set_firsts kind 0 vs)) all_taken in
+      omega (
+        arith,
+        few.few_sets,
+        length-map firsts (λ (w : Visit). w.node.children),
+        length-map firsts (set_of_visit kind tree),
+        length-map table.rows set_in_row,
+        ap length sets,
+      )
 
   no_break : (one two : SetsUpTo) (numbers : List (Option ℕ)) → AreTablesOf tree n one two numbers
       → recall_break tree ≡ None
   no_break one two numbers stand =
-      sym (numbers_find_the_break tree game) ∙ stand.no_break ∙ ap (first_break (differ_in_number tree) (visits tree) (n + 1)) (drop_all n (visits tree) (omega (arith, length-visits tree)))
+      sym (numbers_find_the_break tree game) ∙ stand.no_break ∙ ap (first_break (differ_in_number tree) (visits tree) (n + 1))
+      (drop_all n (visits tree) (omega (arith, length-visits tree)))
 
   -- where both tables are those of all nodes, their sets are those of the tree, and no break is
   pub tables_show : (one two : SetsUpTo) (numbers : List (Option ℕ)) → AreTablesOf tree n one two numbers

@@ -1,5 +1,6 @@
 -- What is kept once the first k nodes of a tree were entered.
-use Rattle.std.specs.Prelude.{◌≡◌, ℕ, ◌+◌, ◌-◌, ◌<◌, ◌≤◌, true, false, List, length, map, take, drop, sum, slice_index_or, Option, Some}
+use Rattle.std.specs.Prelude.{◌≡◌, ℕ, ◌+◌, ◌-◌, ◌<◌, ◌≤◌, true, false, List, length, map, take, drop, sum}
+use Rattle.std.specs.Prelude.{slice_index_or, Option, Some}
 use Rattle.def_tree.specs.declared.Kind.{Kind}
 use Rattle.def_tree.specs.declared.Kind.TheVariants.{One, Two}
 use Rattle.def_tree.specs.declared.Node.{Node}
@@ -7,7 +8,8 @@ use Rattle.def_tree.specs.Tree.{Forest}
 use Rattle.def_tree.specs.Rules.{is_same_kind}
 use Rattle.def_game_paths.specs.Paths.{Move, Visit, own_choices, visits}
 use Rattle.def_game_paths.specs.Recall.{first_break, first_of_set}
-use Rattle.def_game_paths.specs.Sequences.{differ_in_number, first_sequence, number_break, sequence_at, sequence_number, set_firsts, set_sizes, sizes_so_far}
+use Rattle.def_game_paths.specs.Sequences.{differ_in_number, first_sequence, number_break, sequence_at, sequence_number}
+use Rattle.def_game_paths.specs.Sequences.{set_firsts, set_sizes, sizes_so_far}
 use Rattle.def_sequence_form.specs.Sets.{first_number, next_numbers}
 use Rattle.def_sequence_form.specs.SetNodes.{is_in_set}
 use Rattle.xg_sets.specs.declared.building.RecallFault.{RecallFault}
@@ -37,10 +39,14 @@ pub record IsLastNode (kind : Kind) (set : ℕ) (nodes : List Visit) (last : ℕ
 
 -- a player's sets so far, each with its first and its last node, and the sequences at the first k nodes
 pub record IsTableUpTo (tree : Forest) (kind : Kind) (k : ℕ) (table : SetsUpTo) : Type 0 where
-  pub sets : map set_in_row table.rows ≡ map (λ v. record { before = sequence_at kind tree v; actions = v.node.children }) (set_firsts kind 0 (take k (visits tree)))
+  pub sets : map set_in_row table.rows ≡ map (λ v. record {
+    before = sequence_at kind tree v;
+    actions = v.node.children;
+  }) (set_firsts kind 0 (take k (visits tree)))
   pub each : (i : ℕ) (d : FoundSet) → i < length table.rows → IsRowOf tree kind (i + 1) (slice_index_or table.rows i d)
   pub nodes : map (λ row. row.node) table.rows ≡ map (first_number tree) (set_firsts kind 0 (take k (visits tree)))
-  pub lasts : (i : ℕ) (d : FoundSet) → i < length table.rows → IsLastNode kind (i + 1) (take k (visits tree)) (slice_index_or table.rows i d).last
+  pub lasts : (i : ℕ) (d : FoundSet) → i < length table.rows
+      → IsLastNode kind (i + 1) (take k (visits tree)) (slice_index_or table.rows i d).last
   pub next : table.next ≡ 1 + sum (sizes_so_far kind (take k (visits tree)))
   pub at_nodes : table.at_nodes ≡ map (sequence_at kind tree) (take k (visits tree))
 

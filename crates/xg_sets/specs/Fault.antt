@@ -17,5 +17,6 @@ TellsBreakOf tree NoMemory = Unit {0}
 abbrev pub IsFirstBreakOf : Forest → RecallFault → Type 0
 IsFirstBreakOf tree (NotRecall node earlier) =
     (d : Visit)
-    → IsFirstBreak (λ k. slice_index_or (visits tree) (k - 1) d) (length (visits tree)) (record { node = node; earlier = earlier })
+    → IsFirstBreak (λ k. slice_index_or (visits tree) (k - 1) d) (length (visits tree))
+    (record { node = node; earlier = earlier })
 IsFirstBreakOf tree NoMemory = Unit {0}

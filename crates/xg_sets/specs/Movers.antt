@@ -30,7 +30,8 @@ no_mover = record { next = record { one = 0; two = 0 }; step = step_of Chance }
 -- a mover is around, and its sequences leave room for the next numbers
 abbrev pub HasMoverAround : List Mover → Type 0
 HasMoverAround [] = ⊥
-HasMoverAround (around ∷ further) = (around.next.one + around.step.one < 2 ^ 32) × (around.next.two + around.step.two < 2 ^ 32)
+HasMoverAround (around ∷ further) = (around.next.one + around.step.one < 2 ^ 32)
+    × (around.next.two + around.step.two < 2 ^ 32)
 
 -- of these movers the innermost goes on at its next child, and the others stay around it
 abbrev pub GoesBackTo : List Mover → Mover → List Mover → Type 0

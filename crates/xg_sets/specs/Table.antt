@@ -1,5 +1,6 @@
 -- A player's sets so far, and the player's sequence at each node so far.
-use Rattle.std.specs.Prelude.{◌≡◌, ◌≢◌, ℕ, ◌+◌, ◌-◌, ◌≤◌, List, [], ◌∷◌, ◌++◌, length, slice_get, slice_set, Option, Some, None, Result, Ok, Err}
+use Rattle.std.specs.Prelude.{◌≡◌, ◌≢◌, ℕ, ◌+◌, ◌-◌, ◌≤◌, List, [], ◌∷◌, ◌++◌, length, slice_get, slice_set, Option}
+use Rattle.std.specs.Prelude.{Some, None, Result, Ok, Err}
 use Rattle.def_tree.specs.declared.Node.{Node}
 use Rattle.def_tree.specs.Rules.{most_nodes}
 use Rattle.xg_sets.specs.declared.table.FoundSet.{FoundSet}
@@ -42,15 +43,20 @@ with_last table i row k = record table { rows = slice_set table.rows i (record r
 abbrev pub JoinsRow : ℕ → FoundSet → SetsUpTo → ℕ → ℕ → SetsUpTo → Result ℕ RecallFault → List (Option ℕ)
     → List (Option ℕ) → Type 0
 JoinsRow i row old k before new (Ok first) next new_next =
-    (row.before ≡ before) × (first ≡ row.first) × (new ≡ with_last old i row k) × (new_next ≡ slice_set next (row.last - 1) (Some k))
+    (row.before ≡ before) × (first ≡ row.first) × (new ≡ with_last old i row k)
+    × (new_next ≡ slice_set next (row.last - 1) (Some k))
 JoinsRow i row old k before new (Err NoMemory) next new_next = ⊥
-JoinsRow i row old k before new (Err (NotRecall node earlier)) next new_next = (row.before ≢ before) × (node ≡ k) × (earlier ≡ row.node)
+JoinsRow i row old k before new (Err (NotRecall node earlier)) next new_next = (row.before ≢ before) × (node ≡ k)
+    × (earlier ≡ row.node)
 
 abbrev pub NotesIn : Option FoundSet → SetsUpTo → ℕ → Node → ℕ → SetsUpTo → Result ℕ RecallFault → List (Option ℕ)
     → List (Option ℕ) → Type 0
 NotesIn None old k node before new result next new_next = BeginsSet old k node before new result × (new_next ≡ next)
-NotesIn (Some row) old k node before new result next new_next = JoinsRow (node.set - 1) row old k before new result next new_next
+NotesIn (Some row) old k node before new result next new_next = JoinsRow (node.set - 1) row old k before new result next
+    new_next
 
 -- node k is noted in its set's row, or begins the next set
-abbrev pub Notes : SetsUpTo → ℕ → Node → ℕ → SetsUpTo → Result ℕ RecallFault → List (Option ℕ) → List (Option ℕ) → Type 0
-Notes old k node before new result next new_next = NotesIn (slice_get old.rows (node.set - 1)) old k node before new result next new_next
+abbrev pub Notes : SetsUpTo → ℕ → Node → ℕ → SetsUpTo → Result ℕ RecallFault → List (Option ℕ) → List (Option ℕ)
+    → Type 0
+Notes old k node before new result next new_next = NotesIn (slice_get old.rows (node.set - 1)) old k node before new
+    result next new_next

@@ -35,14 +35,16 @@ MayEnter visitor k node = UnlessStopped visitor.fault (MayComeNext visitor.build
 
 abbrev pub Enters : SetVisitor → ℕ → Node → SetVisitor → Type 0
 Enters old k node new =
-    (new.building.tree.now ≡ old.building.tree.now) × Steps old.fault new.fault (FindsBreak old.building.tree.now) (HasEntered old.building.tree.now k node old.building new.building)
+    (new.building.tree.now ≡ old.building.tree.now) × Steps old.fault new.fault (FindsBreak old.building.tree.now)
+    (HasEntered old.building.tree.now k node old.building new.building)
 
 abbrev pub MayLeave : SetVisitor → ℕ → Type 0
 MayLeave visitor k = UnlessStopped visitor.fault (HasMoverAround visitor.building.outer)
 
 abbrev pub Leaves : SetVisitor → ℕ → SetVisitor → Type 0
 Leaves old k new =
-    (new.building.tree.now ≡ old.building.tree.now) × Steps old.fault new.fault (λ _. ⊥) (HasLeft old.building new.building)
+    (new.building.tree.now ≡ old.building.tree.now) × Steps old.fault new.fault (λ _. ⊥)
+    (HasLeft old.building new.building)
 
 -- no node was entered yet
 pub record IsBefore (tree : Forest) (visitor : SetVisitor) : Type 0 where

@@ -11,8 +11,8 @@ pub(crate) struct Sequences {
     pub(crate) two: u32,
 }
 
-/// The sequences at the next child of a node on the path, and how far they go on from each child to the one after it: by
-/// one for who moves at the node.
+/// The sequences at the next child of a node on the path, and how far they go on from each child to the one after it:
+/// by one for who moves at the node.
 #[derive(Clone, Copy)]
 pub(crate) struct Mover {
     pub(crate) next: Sequences,

@@ -8,8 +8,8 @@ use crate::table::FoundSets;
 use def_tree::Player;
 use std::marker::Model;
 
-/// The information sets of both players, the nodes of each set, and the number of each player's sequence at each node of
-/// the tree.
+/// The information sets of both players, the nodes of each set, and the number of each player's sequence at each node
+/// of the tree.
 ///
 /// Sets are numbered from 1 within their player, and nodes from 1 in prefix order. Sequence 0 is the empty one.
 #[derive(Drop)]

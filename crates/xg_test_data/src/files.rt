@@ -122,7 +122,8 @@ t "" 0
 
 /// A card that player one alone sees.
 pub const BLUFF: &str =
-    r#"EFG 2 R "Bluff: one card is a winner with 1/3, its holder folds or raises by 3/2, the other passes or meets" { "Holder" "Caller" }
+    r#"EFG 2 R "Bluff: one card is a winner with 1/3, its holder folds or raises by 3/2,
+        the other passes or meets" { "Holder" "Caller" }
 ""
 
 c "" 1 "" { "winner" 1/3 "loser" 2/3 } 0
@@ -139,8 +140,8 @@ t "" 3 "folded" { -1, 1 }
 "#;
 
 /// Outcomes at inner nodes, and a player's set behind another.
-pub const TOLL: &str =
-    r#"EFG 2 R "Toll: each step of the road costs its walker, who turns back or goes on to a prize" { "Walker" "Keeper" }
+pub const TOLL: &str = r#"EFG 2 R "Toll: each step of the road costs its walker,
+        who turns back or goes on to a prize" { "Walker" "Keeper" }
 p "the gate" 1 1 "the gate" { "pay" "leave" } 0
 p "the bridge" 2 1 "the bridge" { "open" "close" } 1 "toll of the gate" { -1, 1 }
 c "the weather" 1 "the weather" { "fair" 2/3 "storm" 1/3 } 2 "toll of the bridge" { -1/2, 1/2 }

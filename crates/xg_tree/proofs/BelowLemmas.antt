@@ -59,7 +59,8 @@ module _ {V : Type 0} (may_enter : V → ℕ → Node → Type 0) (enters : V �
           λ w step. walks under (n + 1) (below place x aside) (around place ∷ outer) (keeps.below_next n place x under aside next)
           (Leave (n + 1) ∷ beyond) back w (keeps.first_entered n place x under aside next outer v w stands step) in
           subst (λ events. Runs events v)
-          (ap (λ events. Enter (n + 1) x ∷ events) (sym (append_assoc (events_from (n + 1 + 1) under) (Leave (n + 1) ∷ events_from (n + 1 + 1 + node_count under) aside) rest)))
+          (ap (λ events. Enter (n + 1) x ∷ events) (sym (append_assoc (events_from (n + 1 + 1) under)
+          (Leave (n + 1) ∷ events_from (n + 1 + 1 + node_count under) aside) rest)))
           (runs_enter may_enter enters may_leave leaves Ends (n + 1) x (events_from (n + 1 + 1) under ++ (Leave (n + 1) ∷ beyond)) v
           (keeps.may_enter_first n place x under aside next outer v stands) into)
 

@@ -1,5 +1,6 @@
 -- A builder with one node more.
-use Rattle.std.proofs.Common.{◌≡◌, ℕ, cond, ◌+◌, ◌-◌, ◌*◌, ◌^◌, ◌<◌, ◌≤◌, ◌≢◌, List, [], ◌∷◌, ◌++◌, length, get_or, take, refl, ap, sym, subst, ◌∙◌, arith, length-append}
+use Rattle.std.proofs.Common.{◌≡◌, ℕ, cond, ◌+◌, ◌-◌, ◌*◌, ◌^◌, ◌<◌, ◌≤◌, ◌≢◌, List, [], ◌∷◌, ◌++◌, length, get_or, take, refl, ap, sym, subst, ◌∙◌, arith}
+use Rattle.std.proofs.Common.{length-append}
 use Rattle.std.specs.List.{All}
 use Rattle.std.proofs.lemmas.List.Elements.{All-head, All-tail}
 use Rattle.std.proofs.lemmas.List.Sums.{sum_by_push}
@@ -26,7 +27,8 @@ pub wanted-le : (n : ℕ) (nodes : List Node) → All (λ node. node.children �
 wanted-le n [] few = omega arith
 wanted-le n (x ∷ xs) few =
     let this : x.children ≤ 1024 = All-head (λ node. node.children ≤ 1024) x xs few in
-    let rest : wanted (n + x.children - 1) xs ≤ (n + x.children - 1) + 1024 * length xs = wanted-le (n + x.children - 1) xs (All-tail (λ node. node.children ≤ 1024) x xs few) in
+    let rest : wanted (n + x.children - 1) xs ≤ (n + x.children - 1) + 1024
+    * length xs = wanted-le (n + x.children - 1) xs (All-tail (λ node. node.children ≤ 1024) x xs few) in
     omega arith
 
 -- what is still wanted is a 32-bit number
@@ -44,7 +46,8 @@ pub IsBuilt-push : (nodes : List Node) (links : List Links) (wanting ended : ℕ
 IsBuilt-push nodes links wanting ended sizes node built some fits short =
     let wants : wanting ≡ wanted 1 nodes = built.wants in
     let ends : ended ≡ leaf_count nodes = built.ends in
-    let pushed : leaf_count (nodes ++ node ∷ []) ≡ leaf_count nodes + cond (is_leaf_kind node.kind) 1 0 = sum_by_push (λ x. cond (is_leaf_kind x.kind) 1 0) nodes node in
+    let pushed : leaf_count (nodes ++ node ∷ []) ≡ leaf_count nodes + cond (is_leaf_kind node.kind) 1 0 = sum_by_push (λ x. cond (is_leaf_kind x.kind) 1 0)
+    nodes node in
     let open_place : 0 < wanted 1 nodes = omega arith in
     let more : wanted 1 (nodes ++ node ∷ []) ≡ wanted 1 nodes + node.children - 1 = wanted-append 1 nodes (node ∷ []) in
     let long : length (nodes ++ node ∷ []) ≡ length nodes + 1 = length-append nodes (node ∷ []) in
@@ -72,13 +75,20 @@ no_nodes = record {
 -- where no node is wanted any more, the nodes are a tree's
 pub kept_of_built : (nodes : List Node) (links : List Links) (wanting ended : ℕ) (sizes : SizeLists) → IsBuilt nodes links wanting ended sizes
     → wanted 1 nodes ≡ 0 → IsKeptTree nodes links ended
-kept_of_built nodes links wanting ended sizes built none = record { whole = record { begins = built.begins; ends = none }; rules = built.rules; limit = built.limit; stored = built.linked ∙ linked-whole nodes (record { begins = built.begins; ends = none }); ends = built.ends }
+kept_of_built nodes links wanting ended sizes built none = record {
+  whole = record { begins = built.begins; ends = none };
+  rules = built.rules;
+  limit = built.limit;
+  stored = built.linked ∙ linked-whole nodes (record { begins = built.begins; ends = none });
+  ends = built.ends;
+}
 
 -- what is built of some nodes is built of equal ones, with equal counts of leaves and equal sizes
 pub IsBuilt-same : (xs ys : List Node) (ks ls : List Links) (wanting l m : ℕ) (s t : SizeLists) → xs ≡ ys → ks ≡ ls → l ≡ m → s ≡ t
     → IsBuilt ys ls wanting m t → IsBuilt xs ks wanting l s
 IsBuilt-same xs ys ks ls wanting l m s t nodes links ends sizes built =
-    subst (λ v. IsBuilt v ks wanting l s) (sym nodes) (subst (λ v. IsBuilt ys v wanting l s) (sym links) (subst (λ v. IsBuilt ys ls wanting v s) (sym ends) (subst (IsBuilt ys ls wanting m) (sym sizes) built)))
+    subst (λ v. IsBuilt v ks wanting l s) (sym nodes) (subst (λ v. IsBuilt ys v wanting l s) (sym links)
+    (subst (λ v. IsBuilt ys ls wanting v s) (sym ends) (subst (IsBuilt ys ls wanting m) (sym sizes) built)))
 
 -- there are links of each node
 pub links_as_nodes : (nodes : List Node) (links : List Links) (wanting ended : ℕ) (sizes : SizeLists)

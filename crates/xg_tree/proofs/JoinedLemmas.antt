@@ -1,17 +1,21 @@
 -- What the nodes of whole trees make of the links before them.
-use Rattle.std.proofs.Common.{◌≡◌, ℕ, zero, suc, ◌+◌, ◌-◌, ◌≤◌, List, [], ◌∷◌, ◌++◌, length, refl, ap, sym, subst, ◌∙◌, arith, append_assoc, append-nil, length-append}
+use Rattle.std.proofs.Common.{◌≡◌, ℕ, zero, suc, ◌+◌, ◌-◌, ◌≤◌, List, [], ◌∷◌, ◌++◌, length, refl, ap, sym, subst, ◌∙◌, arith, append_assoc, append-nil}
+use Rattle.std.proofs.Common.{length-append}
 use Rattle.def_tree.specs.declared.Node.{Node}
 use Rattle.def_tree.specs.Tree.{Forest, bare, grown, prefix, node_count, tree_count, HasItsChildren, IsTree, IsWhole, forest_of}
 use Rattle.def_tree.proofs.Forests.{prefix-forest_of}
 use Rattle.def_tree.proofs.Lists.{tree_of_whole}
 use Rattle.xg_tree.specs.declared.links.Links.{Links}
-use Rattle.xg_tree.specs.Linked.{link_numbers, place_numbers, links_at, with_next, place_from, next_place, first_below, linked_at, linked_next, linked_on, linked, ComeAfterParents, first_root, stored_from, stored}
-use Rattle.xg_tree.proofs.LinkedLemmas.{place-stop, place-up, links_at-front, links_at-seam, with_next-front, with_next-seam, with_next-twice, next-with_next, length-with_next, linked_on-append, length-stored_from, ComeAfterParents-next, ComeAfterParents-on, none_in_order}
+use Rattle.xg_tree.specs.Linked.{link_numbers, place_numbers, links_at, with_next, place_from, next_place, first_below, linked_at, linked_next, linked_on}
+use Rattle.xg_tree.specs.Linked.{linked, ComeAfterParents, first_root, stored_from, stored}
+use Rattle.xg_tree.proofs.LinkedLemmas.{place-stop, place-up, links_at-front, links_at-seam, with_next-front, with_next-seam, with_next-twice, next-with_next}
+use Rattle.xg_tree.proofs.LinkedLemmas.{length-with_next, linked_on-append, length-stored_from, ComeAfterParents-next, ComeAfterParents-on, none_in_order}
 
 -- the trees stand below the parent, which has so many fewer children to come; the first comes after the previous
 -- sibling, and the search for the next place comes by the parent
 record HasJoined (links : List Links) (parent previous : ℕ) (trees : Forest) (joined : List Links) : Type 0 where
-  is : joined ≡ with_next (with_next links previous (length links + 1)) parent ((links_at links parent).next_sibling - tree_count trees) ++ stored_from parent (length links + 1) trees
+  is : joined ≡ with_next (with_next links previous (length links + 1)) parent ((links_at links parent).next_sibling - tree_count trees)
+      ++ stored_from parent (length links + 1) trees
   last : ℕ
   comes_by : next_place joined ≡ place_from (length joined) joined parent last
 
@@ -51,8 +55,17 @@ entered front parent (suc m) (grown node under beside) count whole joins ordered
     let long : length links ≡ k = length-append front (x ∷ []) in
     let mine : links_at links k ≡ x = links_at-seam front x [] k refl in
     let to_come : (links_at links k).next_sibling ≡ suc m = ap (λ l. l.next_sibling) mine in
-    let here : next_place links ≡ place_numbers k 0 = ap (λ n. place_from (length links) links n 0) long ∙ place-stop (length links) links k 0 (λ e. absurd (omega arith)) in
-    let done = joins links k 0 (record { ordered = ordered; some = omega arith; there = omega arith; place = here; trees_whole = whole; one = omega arith; fewer = omega arith }) in
+    let here : next_place links ≡ place_numbers k 0 = ap (λ n. place_from (length links) links n 0) long
+    ∙ place-stop (length links) links k 0 (λ e. absurd (omega arith)) in
+    let done = joins links k 0 (record {
+      ordered = ordered;
+      some = omega arith;
+      there = omega arith;
+      place = here;
+      trees_whole = whole;
+      one = omega arith;
+      fewer = omega arith;
+    }) in
     let none : (links_at links k).next_sibling - tree_count below ≡ 0 = omega arith in
     let left : with_next links k 0 ≡ front ++ link_numbers parent (k + 1) 0 ∷ [] = with_next-seam front x [] k 0 refl in
     record {
@@ -82,7 +95,8 @@ none_beside links front parent previous node below half is up =
     let stands : ℕ → List Links = λ n. front ++ link_numbers parent (first_root (n + 1 + 1) below) 0 ∷ stored_from (n + 1) (n + 1 + 1) below in
     record {
       is = is.inside.is ∙ ap stands is.long
-          ∙ ap (λ rest. front ++ link_numbers parent (first_root (length links + 1 + 1) below) 0 ∷ rest) (sym (append-nil (stored_from (length links + 1) (length links + 1 + 1) below)))
+          ∙ ap (λ rest. front ++ link_numbers parent (first_root (length links + 1 + 1) below) 0 ∷ rest)
+          (sym (append-nil (stored_from (length links + 1) (length links + 1 + 1) below)))
           ∙ ap (λ l. l ++ stored_from parent (length links + 1) (grown node below bare)) is.front_is;
       last = length front + 1;
       comes_by = up;
@@ -112,7 +126,15 @@ some_beside links front parent previous node below beside half is joins one firs
     ap (λ l. (links_at l parent).next_sibling) is.inside.is ∙ ap (λ l. l.next_sibling) (links_at-front front (x ∷ inner) parent (omega arith))
     ∙ ap (λ l. (links_at l parent).next_sibling) is.front_is ∙ next-with_next told parent (to_come - 1) is.some (omega arith)
     in let here : next_place half ≡ place_numbers parent k = up ∙ place-stop (length half) half parent k (λ e. absurd (omega arith)) in
-    let done = joins half parent k (record { ordered = is.ordered; some = is.some; there = omega arith; place = here; trees_whole = is.whole; one = one; fewer = omega arith }) in
+    let done = joins half parent k (record {
+      ordered = is.ordered;
+      some = is.some;
+      there = omega arith;
+      place = here;
+      trees_whole = is.whole;
+      one = one;
+      fewer = omega arith;
+    }) in
     let behind : length half + 1 ≡ after = omega arith in
     let fewer : ℕ = to_come - suc (tree_count beside) in
     let less : (links_at half parent).next_sibling - tree_count beside ≡ fewer = omega arith in
@@ -120,11 +142,15 @@ some_beside links front parent previous node below beside half is joins one firs
     let lowered : with_next (front ++ y ∷ inner) parent fewer ≡ with_next told parent fewer ++ y ∷ inner =
     with_next-front front (y ∷ inner) parent fewer (omega arith) ∙ ap (λ l. with_next l parent fewer ++ y ∷ inner) is.front_is
     ∙ ap (λ l. l ++ y ∷ inner) (with_next-twice told parent (to_come - 1) fewer (omega arith))
-    in let stands : ℕ → List Links = λ n. with_next told parent fewer ++ link_numbers parent (first_root (n + 1 + 1) below) (n + 1 + 1 + node_count below) ∷ (stored_from (n + 1) (n + 1 + 1) below ++ stored_from parent (n + 1 + 1 + node_count below) beside) in
+    in let stands : ℕ → List Links = λ n. with_next told parent fewer ++ link_numbers parent (first_root (n + 1 + 1) below) (n + 1 + 1 + node_count below)
+    ∷ (stored_from (n + 1) (n + 1 + 1) below ++ stored_from parent (n + 1 + 1 + node_count below) beside) in
     record {
       is = done.is ∙ (λ i. with_next (with_next half k (behind i)) parent (less i) ++ stored_from parent (behind i) beside)
-          ∙ ap (λ l. with_next l parent fewer ++ outer) joined ∙ ap (λ l. l ++ outer) lowered ∙ append_assoc (with_next told parent fewer) (y ∷ inner) outer ∙ ap stands long
-          ∙ ap (λ n. with_next told parent fewer ++ link_numbers parent (first_root (length links + 1 + 1) below) n ∷ (stored_from (length links + 1) (length links + 1 + 1) below ++ stored_from parent (length links + 1 + 1 + node_count below) beside)) (sym (first (length links + 1 + 1 + node_count below)));
+          ∙ ap (λ l. with_next l parent fewer ++ outer) joined ∙ ap (λ l. l ++ outer) lowered ∙ append_assoc (with_next told parent fewer) (y ∷ inner) outer
+          ∙ ap stands long
+          ∙ ap (λ n. with_next told parent fewer ++ link_numbers parent (first_root (length links + 1 + 1) below) n
+          ∷ (stored_from (length links + 1) (length links + 1 + 1) below ++ stored_from parent (length links + 1 + 1 + node_count below) beside))
+          (sym (first (length links + 1 + 1 + node_count below)));
       last = done.last;
       comes_by = done.comes_by;
     }
@@ -146,10 +172,16 @@ then_beside links front parent previous node below beside half is joins =
     let x : Links = link_numbers parent (first_root (k + 1) below) 0 in
     let inner : List Links = stored_from k (k + 1) below in
     let mine : links_at half k ≡ x = ap (λ l. links_at l k) is.inside.is ∙ links_at-seam front x inner k refl in
-    let size : length half ≡ k + node_count below = omega (arith, ap length is.inside.is, length-append front (x ∷ inner), length-stored_from k (k + 1) below) in
+    let size : length half ≡ k + node_count below = omega (
+      arith,
+      ap length is.inside.is,
+      length-append front (x ∷ inner),
+      length-stored_from k (k + 1) below,
+    ) in
     let none : (links_at half k).next_sibling ≡ 0 = ap (λ l. l.next_sibling) mine in
     let up : next_place half ≡ place_from (length half) half parent k =
-    is.inside.comes_by ∙ place-up (length half) half k is.inside.last is.ordered (omega arith) (omega arith) none ∙ ap (λ l. place_from (length half) half l.parent k) mine
+    is.inside.comes_by ∙ place-up (length half) half k is.inside.last is.ordered (omega arith) (omega arith) none
+    ∙ ap (λ l. place_from (length half) half l.parent k) mine
     in beside_cases links front parent previous node below beside half is joins up size
 
 joins : (trees : Forest) → Joins trees
@@ -185,7 +217,8 @@ linked-tree bare is = absurd (omega (arith, is.one))
 linked-tree (grown node below (grown other under rest)) is = absurd (omega (arith, is.one))
 linked-tree (grown node below bare) is =
     let inside = entered [] 0 node.children below is.children.0 is.children.1 (joins below) (ComeAfterParents-next [] node.children none_in_order) in
-    ap (linked_on (linked_next [] node.children)) (append-nil (prefix below)) ∙ inside.is ∙ ap (λ rest. link_numbers 0 (first_root 2 below) 0 ∷ rest) (sym (append-nil (stored_from 1 2 below)))
+    ap (linked_on (linked_next [] node.children)) (append-nil (prefix below)) ∙ inside.is
+    ∙ ap (λ rest. link_numbers 0 (first_root 2 below) 0 ∷ rest) (sym (append-nil (stored_from 1 2 below)))
 
 -- so do the nodes of a whole tree
 pub linked-whole : (nodes : List Node) → IsWhole nodes → linked nodes ≡ stored (forest_of nodes)

@@ -1,5 +1,6 @@
 -- What a tree is, by what is kept of its nodes.
-use Rattle.std.proofs.Common.{◌≡◌, ℕ, zero, suc, ◌+◌, ◌-◌, ◌<◌, ◌≤◌, List, [], ◌∷◌, ◌++◌, map, length, get_or, refl, ap, sym, subst, ◌∙◌, arith, Some, slice_get}
+use Rattle.std.proofs.Common.{◌≡◌, ℕ, zero, suc, ◌+◌, ◌-◌, ◌<◌, ◌≤◌, List, [], ◌∷◌, ◌++◌, map, length, get_or, refl, ap, sym, subst, ◌∙◌, arith, Some}
+use Rattle.std.proofs.Common.{slice_get}
 use Rattle.std.proofs.lemmas.List.{map-append}
 use Rattle.std.proofs.lemmas.Option.{slice_get_read}
 use Rattle.def_tree.specs.declared.Node.{Node}
@@ -53,12 +54,16 @@ node_links-stored : (parent k : ℕ) (trees : Forest) → 1 ≤ k
 node_links-stored parent k bare some = refl
 node_links-stored parent k (grown node below beside) some =
     let after : ℕ = k + 1 + node_count below in
-    let under : map node_links (stored_from k (k + 1) below) ≡ links_from (Some k) (k + 1) below = node_links-stored k (k + 1) below (omega arith) ∙ ap (λ n. links_from n (k + 1) below) (numbered-some k some) in
-    let behind : map node_links (stored_from parent after beside) ≡ links_from (numbered parent) after beside = node_links-stored parent after beside (omega arith) in
+    let under : map node_links (stored_from k (k + 1) below) ≡ links_from (Some k) (k + 1) below = node_links-stored k (k + 1) below (omega arith)
+    ∙ ap (λ n. links_from n (k + 1) below) (numbered-some k some) in
+    let behind : map node_links (stored_from parent after beside) ≡ links_from (numbered parent) after beside = node_links-stored parent after beside
+    (omega arith) in
     let first : numbered (first_root (k + 1) below) ≡ slice_get (roots_from (k + 1) below) 0 = first_root-numbered (k + 1) below (omega arith) in
     let next : numbered (first_root after beside) ≡ slice_get (roots_from after beside) 0 = first_root-numbered after beside (omega arith) in
-    (λ i. record { parent = numbered parent; first_child = first i; next_sibling = next i } ∷ map-append node_links (stored_from k (k + 1) below) (stored_from parent after beside) i)
-    ∙ (λ i. record { parent = numbered parent; first_child = slice_get (roots_from (k + 1) below) 0; next_sibling = slice_get (roots_from after beside) 0 } ∷ (under i ++ behind i))
+    (λ i. record { parent = numbered parent; first_child = first i; next_sibling = next i }
+    ∷ map-append node_links (stored_from k (k + 1) below) (stored_from parent after beside) i)
+    ∙ (λ i. record { parent = numbered parent; first_child = slice_get (roots_from (k + 1) below) 0; next_sibling = slice_get (roots_from after beside) 0 }
+    ∷ (under i ++ behind i))
 
 get_or-node_links : (links : List Links) (i : ℕ) → node_links (get_or links i (link_numbers 0 0 0)) ≡ get_or (map node_links links) i no_links
 get_or-node_links [] i = refl

@@ -1,5 +1,6 @@
 -- The links of nodes that come one after the other.
-use Rattle.std.proofs.Common.{◌≡◌, ◌≢◌, ℕ, zero, suc, max, cond, ◌+◌, ◌-◌, ◌<◌, ◌≤◌, List, [], ◌∷◌, ◌++◌, length, get_or, set, refl, ap, sym, ◌∙◌, arith, inl, inr, length-append, true, false}
+use Rattle.std.proofs.Common.{◌≡◌, ◌≢◌, ℕ, zero, suc, max, cond, ◌+◌, ◌-◌, ◌<◌, ◌≤◌, List, [], ◌∷◌, ◌++◌, length, get_or, set, refl, ap, sym, ◌∙◌, arith, inl}
+use Rattle.std.proofs.Common.{inr, length-append, true, false}
 use Rattle.std.specs.Prelude.{nat_eq}
 use Rattle.std.proofs.lemmas.Bool.{cases_lt, eq-eqb, ne_eqb}
 use Rattle.std.proofs.lemmas.List.{set-set, length-set, set-append_left, get_or-set_same, get_or-set_other, get_or_past}
@@ -9,7 +10,8 @@ use Rattle.def_tree.specs.declared.Node.{Node}
 use Rattle.def_tree.specs.Tree.{Forest, bare, grown, prefix, node_count}
 use Rattle.xg_tree.specs.declared.links.Links.{Links}
 use Rattle.xg_tree.specs.declared.links.NodePlace.{NodePlace}
-use Rattle.xg_tree.specs.Linked.{link_numbers, place_numbers, links_at, with_next, place_from, next_place, first_below, linked_at, linked_next, linked_on, ComeAfterParents, stored_from}
+use Rattle.xg_tree.specs.Linked.{link_numbers, place_numbers, links_at, with_next, place_from, next_place, first_below, linked_at, linked_next, linked_on}
+use Rattle.xg_tree.specs.Linked.{ComeAfterParents, stored_from}
 
 place-none : (n : ℕ) (links : List Links) (previous : ℕ) → place_from n links 0 previous ≡ place_numbers 0 previous
 place-none zero links previous = refl
@@ -21,7 +23,8 @@ pub place-stop : (n : ℕ) (links : List Links) (k previous : ℕ) → (links_at
 place-stop zero links k previous some = refl
 place-stop (suc n) links zero previous some = refl
 place-stop (suc n) links (suc i) previous some =
-    ap (λ b. cond b (place_from n links (links_at links (suc i)).parent (suc i)) (place_numbers (suc i) previous)) (ne_eqb (links_at links (suc i)).next_sibling 0 some)
+    ap (λ b. cond b (place_from n links (links_at links (suc i)).parent (suc i)) (place_numbers (suc i) previous))
+    (ne_eqb (links_at links (suc i)).next_sibling 0 some)
 
 place-fuel : (m n : ℕ) (links : List Links) (k previous : ℕ) → ComeAfterParents links → k ≤ m → k ≤ n
     → place_from m links k previous ≡ place_from n links k previous
@@ -42,7 +45,8 @@ place-up zero links k previous ordered some high none = absurd (omega arith)
 place-up (suc n) links zero previous ordered some high none = absurd (omega arith)
 place-up (suc n) links (suc i) previous ordered some high none =
     let before : (links_at links (suc i)).parent < suc i = ordered (suc i) (omega arith) in
-    ap (λ b. cond b (place_from n links (links_at links (suc i)).parent (suc i)) (place_numbers (suc i) previous)) (eq-eqb (links_at links (suc i)).next_sibling 0 none)
+    ap (λ b. cond b (place_from n links (links_at links (suc i)).parent (suc i)) (place_numbers (suc i) previous))
+    (eq-eqb (links_at links (suc i)).next_sibling 0 none)
     ∙ place-fuel n (suc n) links (links_at links (suc i)).parent (suc i) ordered (omega arith) (omega arith)
 
 pub record IsPlaceWithin (place : NodePlace) (k previous : ℕ) : Type 0 where
@@ -59,7 +63,8 @@ place-within (suc n) links (suc i) previous ordered =
     let above = place-within n links (links_at links (suc i)).parent (suc i) ordered in
     let low : (place_from n links (links_at links (suc i)).parent (suc i)).parent ≤ (links_at links (suc i)).parent = above.parent_low in
     let last : (place_from n links (links_at links (suc i)).parent (suc i)).previous ≤ max (links_at links (suc i)).parent (suc i) = above.previous_low in
-    elim (nat_eq (links_at links (suc i)).next_sibling 0) as (λ b. IsPlaceWithin (cond b (place_from n links (links_at links (suc i)).parent (suc i)) (place_numbers (suc i) previous)) (suc i) previous) [
+    elim (nat_eq (links_at links (suc i)).next_sibling 0) as (λ b. IsPlaceWithin
+    (cond b (place_from n links (links_at links (suc i)).parent (suc i)) (place_numbers (suc i) previous)) (suc i) previous) [
       | true ↦ record { parent_low = omega arith; previous_low = omega arith }
       | false ↦ record { parent_low = omega arith; previous_low = omega arith }
     ]
@@ -107,7 +112,8 @@ with_next-twice links (suc i) next last h =
 pub next-with_next : (links : List Links) (k next : ℕ) → 1 ≤ k → k ≤ length links
     → (links_at (with_next links k next) k).next_sibling ≡ next
 next-with_next links zero next some h = absurd (omega arith)
-next-with_next links (suc i) next some h = ap (λ l. l.next_sibling) (get_or-set_same links i (record (links_at links (suc i)) { next_sibling = next }) (link_numbers 0 0 0) (omega arith))
+next-with_next links (suc i) next some h = ap (λ l. l.next_sibling) (get_or-set_same links i (record (links_at links (suc i)) { next_sibling = next })
+    (link_numbers 0 0 0) (omega arith))
 
 parent-with_next : (links : List Links) (k next j : ℕ) → (links_at (with_next links k next) j).parent ≡ (links_at links j).parent
 parent-with_next links k next zero = refl
@@ -124,7 +130,8 @@ parent-with_next links (suc i) next (suc j) =
           | inl beyond ↦ ap (λ l. l.parent) (get_or-set_other links i j changed (link_numbers 0 0 0) (λ e. absurd (omega arith)))
           | inr here ↦ let same : j ≡ i = omega arith in
               ap (λ n. (get_or (set links i changed) n (link_numbers 0 0 0)).parent) same
-              ∙ ap (λ l. l.parent) (get_or-set_same links i changed (link_numbers 0 0 0) (omega arith)) ∙ ap (λ n. (get_or links n (link_numbers 0 0 0)).parent) (sym same)
+              ∙ ap (λ l. l.parent) (get_or-set_same links i changed (link_numbers 0 0 0) (omega arith))
+              ∙ ap (λ n. (get_or links n (link_numbers 0 0 0)).parent) (sym same)
         ]
       ]
     ]
@@ -137,7 +144,8 @@ ComeAfterParents-push links x ordered low k some = elim (cases_lt (length links)
       let before : (links_at links k).parent < k = ordered k some in omega arith
   | inl beyond ↦ elim (cases_lt (length links + 1) k) [
     | inr here ↦ let is : (links_at (links ++ x ∷ []) k).parent ≡ x.parent = ap (λ l. l.parent) (links_at-seam links x [] k (omega arith)) in omega arith
-    | inl past ↦ let is : (links_at (links ++ x ∷ []) k).parent ≡ 0 = ap (λ l. l.parent) (links_at-past (links ++ x ∷ []) k (omega (arith, length-append links (x ∷ [])))) in omega arith
+    | inl past ↦ let is : (links_at (links ++ x ∷ []) k).parent ≡ 0 = ap (λ l. l.parent)
+        (links_at-past (links ++ x ∷ []) k (omega (arith, length-append links (x ∷ [])))) in omega arith
   ]
 ]
 
@@ -156,7 +164,8 @@ ComeAfterParents-next links children ordered =
     let long : length front ≡ length told = length-with_next told place.parent ((links_at links place.parent).next_sibling - 1) in
     let wide : length told ≡ length links = length-with_next links place.previous (length links + 1) in
     ComeAfterParents-push front (link_numbers place.parent (first_below (length links + 1) children) children)
-    (ComeAfterParents-with_next told place.parent ((links_at links place.parent).next_sibling - 1) (ComeAfterParents-with_next links place.previous (length links + 1) ordered)) (omega arith)
+    (ComeAfterParents-with_next told place.parent ((links_at links place.parent).next_sibling - 1)
+    (ComeAfterParents-with_next links place.previous (length links + 1) ordered)) (omega arith)
 
 pub ComeAfterParents-on : (links : List Links) (nodes : List Node) → ComeAfterParents links → ComeAfterParents (linked_on links nodes)
 ComeAfterParents-on links [] ordered = ordered
@@ -187,8 +196,13 @@ pub length-stored_from : (parent k : ℕ) (trees : Forest) → length (stored_fr
 length-stored_from parent k bare = refl
 length-stored_from parent k (grown node below beside) =
     let under : length (stored_from k (k + 1) below) ≡ node_count below = length-stored_from k (k + 1) below in
-    let after : length (stored_from parent (k + 1 + node_count below) beside) ≡ node_count beside = length-stored_from parent (k + 1 + node_count below) beside in
-    omega (arith, length-append (stored_from k (k + 1) below) (stored_from parent (k + 1 + node_count below) beside), length-append (prefix below) (prefix beside))
+    let after : length (stored_from parent (k + 1 + node_count below) beside)
+    ≡ node_count beside = length-stored_from parent (k + 1 + node_count below) beside in
+    omega (
+      arith,
+      length-append (stored_from k (k + 1) below) (stored_from parent (k + 1 + node_count below) beside),
+      length-append (prefix below) (prefix beside),
+    )
 
 -- the place of the next node is among the nodes before it
 pub place_low : (links : List Links) → ComeAfterParents links → (next_place links).parent ≤ length links
@@ -203,7 +217,8 @@ pub told_front : (links : List Links) (x : Links) (previous next parent to_come 
     → with_next (with_next (links ++ x ∷ []) previous next) parent to_come ≡ with_next (with_next links previous next) parent to_come ++ x ∷ []
 told_front links x previous next parent to_come p q =
     let long : length (with_next links previous next) ≡ length links = length-with_next links previous next in
-    ap (λ l. with_next l parent to_come) (with_next-front links (x ∷ []) previous next p) ∙ with_next-front (with_next links previous next) (x ∷ []) parent to_come (omega arith)
+    ap (λ l. with_next l parent to_come) (with_next-front links (x ∷ []) previous next p)
+    ∙ with_next-front (with_next links previous next) (x ∷ []) parent to_come (omega arith)
 
 -- the links with those of one node more
 pub put_is : (links : List Links) (place : NodePlace) (count first to_come children : ℕ) → place ≡ next_place links
@@ -212,4 +227,5 @@ pub put_is : (links : List Links) (place : NodePlace) (count first to_come child
     with_next (with_next links place.previous (count + 1)) place.parent to_come ++ link_numbers place.parent first children ∷ [] ≡ linked_next links children
 put_is links place count first to_come children is long below left =
     let under : first ≡ first_below (length links + 1) children = below ∙ ap (λ n. first_below (n + 1) children) long in
-    (λ i. with_next (with_next links place.previous (long i + 1)) place.parent (left i) ++ link_numbers place.parent (under i) children ∷ []) ∙ ap (λ p. linked_at links p children) is
+    (λ i. with_next (with_next links place.previous (long i + 1)) place.parent (left i) ++ link_numbers place.parent (under i) children ∷ [])
+    ∙ ap (λ p. linked_at links p children) is

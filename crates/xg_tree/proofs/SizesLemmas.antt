@@ -1,5 +1,6 @@
 -- The sizes of sets tell which nodes fit.
-use Rattle.std.proofs.Common.{◌≡◌, ℕ, ◌+◌, ◌-◌, ◌<◌, ◌≤◌, max, true, false, cond, List, [], ◌∷◌, ◌++◌, length, get_or, refl, ap, sym, subst, ◌∙◌, arith, inl, inr, ◌↔◌, length-append}
+use Rattle.std.proofs.Common.{◌≡◌, ℕ, ◌+◌, ◌-◌, ◌<◌, ◌≤◌, max, true, false, cond, List, [], ◌∷◌, ◌++◌, length, get_or, refl, ap, sym, subst, ◌∙◌, arith, inl}
+use Rattle.std.proofs.Common.{inr, ◌↔◌, length-append}
 use Rattle.std.proofs.lemmas.List.Elements.{All-contains, All-push, Contains-append_left, Contains-push}
 use Rattle.std.proofs.lemmas.Bool.{cases_lt, le-ltb, lt-ltb}
 use Rattle.std.proofs.Math.ListN.{get_or-append}
@@ -49,7 +50,10 @@ joins_sizes_of_set kind nodes sizes node is held joins =
 
 fits_as : (kind : Kind) (nodes : List Node) (sizes : SizeLists) (node : Node) → node.kind ≡ kind → HoldSizes nodes sizes
     → FitsSizesAs kind sizes node ↔ FitsAs kind nodes node
-fits_as Chance nodes sizes node is held = (joins_set_of_sizes Chance nodes sizes.chance node is held.chance, joins_sizes_of_set Chance nodes sizes.chance node is held.chance)
+fits_as Chance nodes sizes node is held = (
+  joins_set_of_sizes Chance nodes sizes.chance node is held.chance,
+  joins_sizes_of_set Chance nodes sizes.chance node is held.chance,
+)
 fits_as One nodes sizes node is held = (joins_set_of_sizes One nodes sizes.one node is held.one, joins_sizes_of_set One nodes sizes.one node is held.one)
 fits_as Two nodes sizes node is held = (joins_set_of_sizes Two nodes sizes.two node is held.two, joins_sizes_of_set Two nodes sizes.two node is held.two)
 fits_as Leaf nodes sizes node is held = (λ h. h, λ h. h)
@@ -79,10 +83,12 @@ sizes-push_seen : (kind : Kind) (nodes : List Node) (sizes : List ℕ) (node : N
     → AreSizes kind (nodes ++ node ∷ []) sizes
 sizes-push_seen kind nodes sizes node is held joins here =
     let count : length sizes ≡ set_count kind nodes = held.count in
-    let more : set_count kind (nodes ++ node ∷ []) ≡ max node.set (set_count kind nodes) = set_count-push_same kind nodes node (is_same_kind_self kind node.kind is) in
+    let more : set_count kind (nodes ++ node ∷ []) ≡ max node.set (set_count kind nodes) = set_count-push_same kind nodes node
+    (is_same_kind_self kind node.kind is) in
     record {
       count = omega arith;
-      each = All-push (λ x. x.kind ≡ kind → HasSize sizes x.set x.children) nodes node held.each (λ same. record { counts = joins.counts; known = here; size = joins.agrees here });
+      each = All-push (λ x. x.kind ≡ kind → HasSize sizes x.set x.children) nodes node held.each
+          (λ same. record { counts = joins.counts; known = here; size = joins.agrees here });
       met = λ i h. let met = held.met i h in (met.0, (Contains-append_left nodes (node ∷ []) met.0 met.1.0, met.1.1));
     }
 
@@ -92,7 +98,8 @@ sizes-push_new : (kind : Kind) (nodes : List Node) (sizes : List ℕ) (node : No
     → AreSizes kind (nodes ++ node ∷ []) (sizes ++ node.children ∷ [])
 sizes-push_new kind nodes sizes node is held joins beyond =
     let count : length sizes ≡ set_count kind nodes = held.count in
-    let more : set_count kind (nodes ++ node ∷ []) ≡ max node.set (set_count kind nodes) = set_count-push_same kind nodes node (is_same_kind_self kind node.kind is) in
+    let more : set_count kind (nodes ++ node ∷ []) ≡ max node.set (set_count kind nodes) = set_count-push_same kind nodes node
+    (is_same_kind_self kind node.kind is) in
     let next : node.set ≤ length sizes + 1 = joins.next in
     let long : length (sizes ++ node.children ∷ []) ≡ length sizes + 1 = length-append sizes (node.children ∷ []) in
     let last : get_or (sizes ++ node.children ∷ []) (length sizes) 0 ≡ node.children = get_or-append_seam sizes node.children [] 0 in
@@ -113,8 +120,13 @@ sizes-push_new kind nodes sizes node is held joins beyond =
       met = λ i h. elim (cases_lt i (length sizes)) [
         | inr past ↦ let e : i ≡ length sizes = omega arith in
             (node, (Contains-push nodes node, (is, (omega arith, sym (ap (λ n. get_or (sizes ++ node.children ∷ []) n 0) e ∙ last)))))
-        | inl before ↦ let met = held.met i before in
-            (met.0, (Contains-append_left nodes (node ∷ []) met.0 met.1.0, (met.1.1.0, (met.1.1.1.0, met.1.1.1.1 ∙ sym (get_or-append sizes (node.children ∷ []) 0 i before)))))
+        | inl before ↦ let met = held.met i before in (
+          met.0,
+          (
+            Contains-append_left nodes (node ∷ []) met.0 met.1.0,
+            (met.1.1.0, (met.1.1.1.0, met.1.1.1.1 ∙ sym (get_or-append sizes (node.children ∷ []) 0 i before))),
+          ),
+        )
       ];
     }
 
@@ -123,8 +135,10 @@ pub sizes-push_same : (kind : Kind) (nodes : List Node) (sizes : List ℕ) (node
     → AreSizes kind nodes sizes → JoinsSizes sizes node.set node.children
     → AreSizes kind (nodes ++ node ∷ []) (noted sizes node.set node.children)
 sizes-push_same kind nodes sizes node is held joins = elim (cases_lt (length sizes) node.set) [
-  | inl beyond ↦ subst (AreSizes kind (nodes ++ node ∷ [])) (sym (ap (λ b. cond b (sizes ++ node.children ∷ []) sizes) (lt-ltb (length sizes) node.set beyond))) (sizes-push_new kind nodes sizes node is held joins beyond)
-  | inr here ↦ subst (AreSizes kind (nodes ++ node ∷ [])) (sym (ap (λ b. cond b (sizes ++ node.children ∷ []) sizes) (le-ltb (length sizes) node.set here))) (sizes-push_seen kind nodes sizes node is held joins here)
+  | inl beyond ↦ subst (AreSizes kind (nodes ++ node ∷ [])) (sym (ap (λ b. cond b (sizes ++ node.children ∷ []) sizes) (lt-ltb (length sizes) node.set beyond)))
+      (sizes-push_new kind nodes sizes node is held joins beyond)
+  | inr here ↦ subst (AreSizes kind (nodes ++ node ∷ [])) (sym (ap (λ b. cond b (sizes ++ node.children ∷ []) sizes) (le-ltb (length sizes) node.set here)))
+      (sizes-push_seen kind nodes sizes node is held joins here)
 ]
 
 push_as : (kind : Kind) (nodes : List Node) (sizes : SizeLists) (node : Node) → node.kind ≡ kind → HoldSizes nodes sizes

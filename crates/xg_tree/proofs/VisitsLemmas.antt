@@ -1,5 +1,6 @@
 -- The walk by the links of nodes is the walk through their tree.
-use Rattle.std.proofs.Common.{◌≡◌, ◌≢◌, ℕ, zero, suc, cond, true, false, ◌+◌, ◌<◌, ◌≤◌, List, [], ◌∷◌, ◌++◌, length, get_or, drop, refl, ap, sym, subst, ◌∙◌, arith, append_assoc, append-nil, add-one, drop-cons, length-append}
+use Rattle.std.proofs.Common.{◌≡◌, ◌≢◌, ℕ, zero, suc, cond, true, false, ◌+◌, ◌<◌, ◌≤◌, List, [], ◌∷◌, ◌++◌, length, get_or, drop, refl, ap, sym, subst, ◌∙◌}
+use Rattle.std.proofs.Common.{arith, append_assoc, append-nil, add-one, drop-cons, length-append}
 use Rattle.std.specs.Prelude.{nat_eq}
 use Rattle.std.proofs.lemmas.Bool.{eq-eqb, ne_eqb}
 use Rattle.std.proofs.Math.ListN.{drop_of_length-le}
@@ -29,7 +30,10 @@ module _ {V : Type 0} (may_enter : V → ℕ → Node → Type 0) (enters : V �
 
   pub going_enters : (whole : List Event) (start : V) (k : ℕ) (node : Node) (rest : List Event) (now next : V)
       → IsGoing whole start (Enter k node ∷ rest) now → enters now k node next → IsGoing whole start rest next
-  going_enters whole start k node rest now next going step = record { accepts = going.accepts.1 next step; leads = λ end leads. going.leads end (next, step, leads) }
+  going_enters whole start k node rest now next going step = record {
+    accepts = going.accepts.1 next step;
+    leads = λ end leads. going.leads end (next, step, leads);
+  }
 
   pub going_leaves : (whole : List Event) (start : V) (k : ℕ) (rest : List Event) (now next : V)
       → IsGoing whole start (Leave k ∷ rest) now → leaves now k next → IsGoing whole start rest next
@@ -101,7 +105,8 @@ visits_from-append : (links : List Links) (k : ℕ) (xs ys : List Node)
 visits_from-append links k [] ys = ap (λ n. walk_events_from links n ys) (omega arith)
 visits_from-append links k (x ∷ xs) ys =
     let far : k + 1 + length xs ≡ k + length (x ∷ xs) = omega arith in
-    ap (λ rest. visit_events links k x ++ rest) (visits_from-append links (k + 1) xs ys ∙ ap (λ n. walk_events_from links (k + 1) xs ++ walk_events_from links n ys) far)
+    ap (λ rest. visit_events links k x ++ rest) (visits_from-append links (k + 1) xs ys
+    ∙ ap (λ n. walk_events_from links (k + 1) xs ++ walk_events_from links n ys) far)
     ∙ sym (append_assoc (visit_events links k x) (walk_events_from links (k + 1) xs) (walk_events_from links (k + length (x ∷ xs)) ys))
 
 -- the nodes of the trees from k on have the links of these trees, below a parent
@@ -143,23 +148,27 @@ module _ (links : List Links) (ordered : ComeAfterParents links) where
       → (1 ≤ tree_count beside → walk_events_from links after (prefix beside) ≡ events_from after beside ++ leaving links parent)
       → leaving links k ++ walk_events_from links after (prefix beside) ≡ Leave k ∷ (events_from after beside ++ leaving links parent)
   then_beside parent k after bare above next some later high walks =
-      append-nil (leaving links k) ∙ leaving_opened links k ordered some (omega arith) ∙ ap (λ n. Leave k ∷ leaving links n) (left_after-last links k next ∙ above)
+      append-nil (leaving links k) ∙ leaving_opened links k ordered some (omega arith)
+      ∙ ap (λ n. Leave k ∷ leaving links n) (left_after-last links k next ∙ above)
   then_beside parent k after (grown other under rest) above next some later high walks =
       let many : node_count (grown other under rest) ≡ 1 + node_count under + node_count rest = nodes_in other under rest in
       let alone : leaving links k ≡ Leave k ∷ [] =
-      leaving_opened links k ordered some (omega arith) ∙ ap (λ n. Leave k ∷ leaving links n) (left_after-other links k (λ e. absurd (omega arith))) ∙ ap (λ l. Leave k ∷ l) (leaving-none (length links) links)
+      leaving_opened links k ordered some (omega arith) ∙ ap (λ n. Leave k ∷ leaving links n) (left_after-other links k (λ e. absurd (omega arith)))
+      ∙ ap (λ l. Leave k ∷ l) (leaving-none (length links) links)
       in (λ i. alone i ++ walks (omega arith) i)
 
   -- after a node is entered come the trees below it
   then_below : (parent k : ℕ) (node : Node) (below : Forest) (rest : List Event)
       → (links_at links k).first_child ≡ first_root (k + 1) below
       → (1 ≤ tree_count below → walk_events_from links (k + 1) (prefix below) ≡ events_from (k + 1) below ++ leaving links k)
-      → visit_events links k node ++ (walk_events_from links (k + 1) (prefix below) ++ rest) ≡ Enter k node ∷ (events_from (k + 1) below ++ (leaving links k ++ rest))
+      → visit_events links k node ++ (walk_events_from links (k + 1) (prefix below) ++ rest) ≡ Enter k node
+      ∷ (events_from (k + 1) below ++ (leaving links k ++ rest))
   then_below parent k node bare rest first walks =
       ap (λ b. (Enter k node ∷ cond b (leaving links k) []) ++ rest) (eq-eqb (links_at links k).first_child 0 first)
   then_below parent k node (grown other under others) rest first walks =
       let some : (links_at links k).first_child ≢ 0 = λ e. absurd (omega arith) in
-      ap (λ b. (Enter k node ∷ cond b (leaving links k) []) ++ (walk_events_from links (k + 1) (prefix (grown other under others)) ++ rest)) (ne_eqb (links_at links k).first_child 0 some)
+      ap (λ b. (Enter k node ∷ cond b (leaving links k) []) ++ (walk_events_from links (k + 1) (prefix (grown other under others)) ++ rest))
+      (ne_eqb (links_at links k).first_child 0 some)
       ∙ ap (λ l. Enter k node ∷ (l ++ rest)) (walks (omega arith))
       ∙ ap (λ l. Enter k node ∷ l) (append_assoc (events_from (k + 1) (grown other under others)) (leaving links k) rest)
 
@@ -172,7 +181,8 @@ module _ (links : List Links) (ordered : ComeAfterParents links) where
       let after : ℕ = k + 1 + node_count below in
       let many : node_count (grown node below beside) ≡ 1 + node_count below + node_count beside = nodes_in node below beside in
       ap (λ l. visit_events links k node ++ l) (visits_from-append links (k + 1) (prefix below) (prefix beside))
-      ∙ then_below parent k node below (walk_events_from links after (prefix beside)) (ap (λ l. l.first_child) has.0) (λ some_below. walks below k (k + 1) has.1 (omega arith) (omega arith) some_below)
+      ∙ then_below parent k node below (walk_events_from links after (prefix beside)) (ap (λ l. l.first_child) has.0)
+      (λ some_below. walks below k (k + 1) has.1 (omega arith) (omega arith) some_below)
       ∙ ap (λ l. Enter k node ∷ (events_from (k + 1) below ++ l))
       (then_beside parent k after beside (ap (λ l. l.parent) has.0) (ap (λ l. l.next_sibling) has.0) some (omega arith) (omega arith)
       (λ some_beside. walks beside parent after has.2 (omega arith) (omega arith) some_beside))
@@ -190,13 +200,16 @@ visits_seen nodes links ended tree e kept =
     let one : tree_count trees ≡ 1 = (tree_of_whole nodes kept.whole).one in
     let has : HasLinks links 0 1 trees = subst (λ l. HasLinks l 0 1 trees) (append-nil (stored trees) ∙ sym kept.stored) (has_links [] [] 0 1 trees refl) in
     let long : length links ≡ node_count trees = ap length kept.stored ∙ length-stored_from 0 1 trees in
-    ap (walk_events_from links 1) (sym (prefix-forest_of nodes)) ∙ walks links (kept_in_order nodes links ended kept) trees 0 1 has (omega arith) (omega arith) (omega arith)
+    ap (walk_events_from links 1) (sym (prefix-forest_of nodes)) ∙ walks links (kept_in_order nodes links ended kept) trees 0 1 has (omega arith) (omega arith)
+    (omega arith)
     ∙ ap (λ l. events trees ++ l) (leaving-none (length links) links) ∙ append-nil (events trees) ∙ ap events e
 
 -- the visits from a node on begin with that to it
 pub visits_opened : (links : List Links) (nodes : List Node) (at : ℕ) (d : Node) → at < length nodes →
-    walk_events_from links (at + 1) (drop at nodes) ≡ visit_events links (at + 1) (get_or nodes at d) ++ walk_events_from links (at + 1 + 1) (drop (at + 1) nodes)
-visits_opened links nodes at d there = ap (walk_events_from links (at + 1)) (drop-cons nodes at d there ∙ ap (λ n. get_or nodes at d ∷ drop n nodes) (sym (add-one at)))
+    walk_events_from links (at + 1) (drop at nodes) ≡ visit_events links (at + 1) (get_or nodes at d)
+    ++ walk_events_from links (at + 1 + 1) (drop (at + 1) nodes)
+visits_opened links nodes at d there = ap (walk_events_from links (at + 1))
+    (drop-cons nodes at d there ∙ ap (λ n. get_or nodes at d ∷ drop n nodes) (sym (add-one at)))
 
 module _ {V : Type 0} (may_enter : V → ℕ → Node → Type 0) (enters : V → ℕ → Node → V → Type 0)
     (may_leave : V → ℕ → Type 0) (leaves : V → ℕ → V → Type 0) where
@@ -215,7 +228,8 @@ module _ {V : Type 0} (may_enter : V → ℕ → Node → Type 0) (enters : V �
       → IsKeptTree nodes links ended → Accepts may_enter enters may_leave leaves (events tree) start
       → IsGoing may_enter enters may_leave leaves (events tree) start (walk_events_from links 1 nodes) start
   walk_begins nodes links ended tree start e kept accepts =
-      subst (λ rest. IsGoing may_enter enters may_leave leaves (events tree) start rest start) (sym (visits_seen nodes links ended tree e kept)) (going_begins may_enter enters may_leave leaves (events tree) start accepts)
+      subst (λ rest. IsGoing may_enter enters may_leave leaves (events tree) start rest start) (sym (visits_seen nodes links ended tree e kept))
+      (going_begins may_enter enters may_leave leaves (events tree) start accepts)
 
   -- of a walk, the visits from a node on are to come
   abbrev IsAtNode : List Event → V → List Node → List Links → ℕ → V → Type 0
@@ -223,7 +237,8 @@ module _ {V : Type 0} (may_enter : V → ℕ → Node → Type 0) (enters : V �
 
   opened : (whole : List Event) (start : V) (nodes : List Node) (links : List Links) (at : ℕ) (d : Node) (now : V) → at < length nodes
       → IsAtNode whole start nodes links at now →
-      IsGoing may_enter enters may_leave leaves whole start (visit_events links (at + 1) (get_or nodes at d) ++ walk_events_from links (at + 1 + 1) (drop (at + 1) nodes)) now
+      IsGoing may_enter enters may_leave leaves whole start (visit_events links (at + 1) (get_or nodes at d)
+      ++ walk_events_from links (at + 1 + 1) (drop (at + 1) nodes)) now
   opened whole start nodes links at d now there going =
       subst (λ rest. IsGoing may_enter enters may_leave leaves whole start rest now) (visits_opened links nodes at d there) going
 
@@ -234,7 +249,8 @@ module _ {V : Type 0} (may_enter : V → ℕ → Node → Type 0) (enters : V �
   visit_accepted whole start nodes seen links read at d now same alike there going =
       subst (λ xs. Accepts may_enter enters may_leave leaves (visit_events read (at + 1) (get_or xs at d)) now) (sym same)
       (subst (λ ls. Accepts may_enter enters may_leave leaves (visit_events ls (at + 1) (get_or nodes at d)) now) (sym alike)
-      (going_accepts may_enter enters may_leave leaves whole start (visit_events links (at + 1) (get_or nodes at d)) (walk_events_from links (at + 1 + 1) (drop (at + 1) nodes)) now
+      (going_accepts may_enter enters may_leave leaves whole start (visit_events links (at + 1) (get_or nodes at d))
+      (walk_events_from links (at + 1 + 1) (drop (at + 1) nodes)) now
       (opened whole start nodes links at d now (omega (arith, ap length same)) going)))
 
   -- and leads to the node behind it
@@ -243,7 +259,8 @@ module _ {V : Type 0} (may_enter : V → ℕ → Node → Type 0) (enters : V �
       → Leads may_enter enters may_leave leaves (visit_events read (at + 1) (get_or seen at d)) now next
       → IsAtNode whole start nodes links (at + 1) next
   visit_over whole start nodes seen links read at d now next same alike there going leads =
-      going_on may_enter enters may_leave leaves whole start (visit_events links (at + 1) (get_or nodes at d)) (walk_events_from links (at + 1 + 1) (drop (at + 1) nodes)) now next
+      going_on may_enter enters may_leave leaves whole start (visit_events links (at + 1) (get_or nodes at d))
+      (walk_events_from links (at + 1 + 1) (drop (at + 1) nodes)) now next
       (opened whole start nodes links at d now (omega (arith, ap length same)) going)
       (subst (λ ls. Leads may_enter enters may_leave leaves (visit_events ls (at + 1) (get_or nodes at d)) now next) alike
       (subst (λ xs. Leads may_enter enters may_leave leaves (visit_events read (at + 1) (get_or xs at d)) now next) same leads))

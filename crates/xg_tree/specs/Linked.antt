@@ -1,13 +1,18 @@
 -- The links that a `Builder` keeps of its nodes, and those that a `Tree` keeps. Nodes are numbered from 1, and 0 stands
 -- for none.
-use Rattle.std.specs.Prelude.{ℕ, ◌+◌, ◌-◌, ◌<◌, ◌≤◌, zero, suc, if◌then◌else◌, nat_eq, Option, Some, None, List, [], ◌∷◌, ◌++◌, length, slice_index_or, slice_set}
+use Rattle.std.specs.Prelude.{ℕ, ◌+◌, ◌-◌, ◌<◌, ◌≤◌, zero, suc, if◌then◌else◌, nat_eq, Option, Some, None, List, []}
+use Rattle.std.specs.Prelude.{◌∷◌, ◌++◌, length, slice_index_or, slice_set}
 use Rattle.def_tree.specs.declared.Node.{Node}
 use Rattle.def_tree.specs.Tree.{Forest, bare, grown, node_count}
 use Rattle.xg_tree.specs.declared.links.Links.{Links}
 use Rattle.xg_tree.specs.declared.links.NodePlace.{NodePlace}
 
 abbrev pub link_numbers : ℕ → ℕ → ℕ → Links
-link_numbers parent first_child next_sibling = record { parent = parent; first_child = first_child; next_sibling = next_sibling }
+link_numbers parent first_child next_sibling = record {
+  parent = parent;
+  first_child = first_child;
+  next_sibling = next_sibling;
+}
 
 abbrev pub place_numbers : ℕ → ℕ → NodePlace
 place_numbers parent previous = record { parent = parent; previous = previous }
@@ -28,7 +33,8 @@ abbrev pub place_from : ℕ → List Links → ℕ → ℕ → NodePlace
 place_from zero links parent previous = place_numbers parent previous
 place_from (suc most) links zero previous = place_numbers 0 previous
 place_from (suc most) links (suc i) previous =
-    if nat_eq (links_at links (suc i)).next_sibling 0 then place_from most links (links_at links (suc i)).parent (suc i) else place_numbers (suc i) previous
+    if nat_eq (links_at links (suc i)).next_sibling 0 then place_from most links (links_at links (suc i)).parent (suc i)
+    else place_numbers (suc i) previous
 
 -- where the next node stands
 abbrev pub next_place : List Links → NodePlace
@@ -40,7 +46,8 @@ first_below k (suc _) = k + 1
 
 abbrev pub linked_at : List Links → NodePlace → ℕ → List Links
 linked_at links place children =
-    with_next (with_next links place.previous (length links + 1)) place.parent ((links_at links place.parent).next_sibling - 1)
+    with_next (with_next links place.previous (length links + 1)) place.parent
+    ((links_at links place.parent).next_sibling - 1)
     ++ link_numbers place.parent (first_below (length links + 1) children) children ∷ []
 
 -- with one node more

@@ -1,6 +1,7 @@
 -- The sizes of sets that a `Builder` keeps: for each kind, how many children the nodes of its first set have, then
 -- those of its second, and so on.
-use Rattle.std.specs.Prelude.{◌≡◌, ℕ, ◌+◌, ◌-◌, ◌<◌, ◌≤◌, if◌then◌else◌, nat_lt, List, [], ◌∷◌, ◌++◌, length, slice_index, All, Contains}
+use Rattle.std.specs.Prelude.{◌≡◌, ℕ, ◌+◌, ◌-◌, ◌<◌, ◌≤◌, if◌then◌else◌, nat_lt, List, [], ◌∷◌, ◌++◌, length}
+use Rattle.std.specs.Prelude.{slice_index, All, Contains}
 use Rattle.def_tree.specs.declared.Kind.{Kind}
 use Rattle.def_tree.specs.declared.Kind.TheVariants.{Chance, One, Two, Leaf}
 use Rattle.def_tree.specs.declared.Node.{Node}

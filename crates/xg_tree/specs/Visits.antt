@@ -1,5 +1,5 @@
--- The walk by the links of nodes. A node is entered; where it has no child it is left, and with it each node above whose
--- last child is left.
+-- The walk by the links of nodes. A node is entered; where it has no child it is left, and with it each node above
+-- whose last child is left.
 use Rattle.std.specs.Prelude.{ℕ, ◌+◌, zero, suc, if◌then◌else◌, nat_eq, List, [], ◌∷◌, ◌++◌, length}
 use Rattle.def_tree.specs.declared.Node.{Node}
 use Rattle.def_tree.specs.Events.{Event, Enter, Leave}

@@ -1,10 +1,12 @@
 //! The links between the nodes of a tree.
 ghost use Rattle.std.specs.Prelude.{◌≡◌, ◌+◌, ◌-◌, ◌<◌, ◌≤◌, length, vec_len, vec_capacity};
 ghost use Rattle.def_tree.specs.Rules.{most_nodes};
-ghost use Rattle.xg_tree.specs.Linked.{ComeAfterParents, first_below, links_at, linked_next, next_place, numbered, with_next};
+ghost use Rattle.xg_tree.specs.Linked.{ComeAfterParents, first_below, links_at, linked_next, next_place, numbered};
+ghost use Rattle.xg_tree.specs.Linked.{with_next};
 ghost use Rattle.xg_tree.specs.Visits.{left_after};
 
-/// The numbers of a node's parent, its first child and its next sibling. Nodes are numbered from 1, and 0 stands for none.
+/// The numbers of a node's parent, its first child and its next sibling. Nodes are numbered from 1, and 0 stands for
+/// none.
 ///
 /// As long as a node has children to come, `next_sibling` is how many.
 #[derive(Clone, Copy)]

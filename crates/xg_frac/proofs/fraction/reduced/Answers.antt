@@ -25,11 +25,13 @@ returns-then-num-gt-MOST_PART c =
 pub invariant_of-result : goal.invariant_of-result
 invariant_of-result c =
     let within : ℕ → Type 0 = λ n. n ≤ 2 ^ 62 in
-    AreParts-from_divisor c.args.negative c.args.num c.args.den c.greatest_common_divisor-common.result _ _ c.requires c.greatest_common_divisor-common.ensures.value (kept_num c) (kept_den c)
+    AreParts-from_divisor c.args.negative c.args.num c.args.den c.greatest_common_divisor-common.result _ _ c.requires
+    c.greatest_common_divisor-common.ensures.value (kept_num c) (kept_den c)
     (subst within c.quotient-num.ensures c.if-num-gt-MOST_PART.false) (subst within c.quotient-den.ensures c.if-den-gt-MOST_PART.false)
 
 pub returns : goal.returns
 returns c =
     let parts = invariant_of-result c in
-    let same = view-from_divisor c.args.negative c.args.num c.args.den c.greatest_common_divisor-common.result _ _ c.greatest_common_divisor-common.ensures.value (kept_num c) (kept_den c) in
+    let same = view-from_divisor c.args.negative c.args.num c.args.den c.greatest_common_divisor-common.result _ _
+    c.greatest_common_divisor-common.ensures.value (kept_num c) (kept_den c) in
     (subst (λ (f : Fraction). fits f ≡ true) same parts.small, same)

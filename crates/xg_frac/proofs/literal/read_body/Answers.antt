@@ -27,7 +27,8 @@ with_point bs rest tail n m digits places r e some point en em ed ep et er =
     let number : m ≡ min (number_of (before ++ ds)) past_all = em ∙ ap (λ xs. capped n (leading_digits xs)) part ∙ capped-append before ds n first in
     let count : places ≡ length ds = ep ∙ ap (λ xs. length (leading_digits xs)) part in
     let all : digits ≡ length (before ++ ds) = ed ∙ ap (λ k. length before + k) count ∙ sym (length-append before ds) in
-    let body : body_after before (after_digits bs) ≡ decimal_of before (Some ds) (after_digits inner) = ap (body_after before) (sym e) ∙ body_after-point before rest some point in
+    let body : body_after before (after_digits bs) ≡ decimal_of before (Some ds) (after_digits inner) = ap (body_after before) (sym e)
+    ∙ body_after-point before rest some point in
     er ∙ ap (λ k. cond (ltb 0 k) (option_map (decimal_quotient m places) (power_of tail)) None) all
     ∙ ap (λ k. cond (ltb 0 (length (before ++ ds))) (option_map (decimal_quotient m k) (power_of tail)) None) count
     ∙ ap (λ xs. cond (ltb 0 (length (before ++ ds))) (option_map (decimal_quotient m (length ds)) (power_of xs)) None) (et ∙ ap after_digits part)
@@ -44,16 +45,19 @@ without_point bs rest n digits r e no_slash no_point en ed er =
     let before = leading_digits bs in
     let nil = append-nil before in
     let number : n ≡ min (number_of (before ++ [])) past_all = en ∙ omega arith ∙ ap (λ xs. min (number_of xs) past_all) (sym nil) in
-    let body : body_after before (after_digits bs) ≡ decimal_of before None rest = ap (body_after before) (sym e) ∙ body_after-other before rest no_slash no_point in
+    let body : body_after before (after_digits bs) ≡ decimal_of before None rest = ap (body_after before) (sym e)
+    ∙ body_after-other before rest no_slash no_point in
     er ∙ ap (λ k. cond (ltb 0 k) (option_map (decimal_quotient n 0) (power_of rest)) None) (ed ∙ ap length (sym nil))
     ∙ sym (quotient_of-decimal_of before None rest n number)
     ∙ ap (option_map quotient_of) (sym body)
 
 pub returns-in-46 : goal.returns-in-46
 returns-in-46 c =
-    with_point c.args.bytes.now c.scan_digits-before.result.rest.now c.scan_digits-after.result.rest.now c.scan_digits-before.result.number c.scan_digits-after.result.number _ c.scan_digits-after.result.len c.read_power-in-46.result
+    with_point c.args.bytes.now c.scan_digits-before.result.rest.now c.scan_digits-after.result.rest.now c.scan_digits-before.result.number
+    c.scan_digits-after.result.number _ c.scan_digits-after.result.len c.read_power-in-46.result
     c.scan_digits-before.ensures.rest c.in-len1-up.len_at_least c.in-46.is c.scan_digits-before.ensures.number c.scan_digits-after.ensures.number
-    (ap (λ k. k + c.scan_digits-after.result.len) c.scan_digits-before.ensures.len) c.scan_digits-after.ensures.len c.scan_digits-after.ensures.rest c.read_power-in-46.ensures
+    (ap (λ k. k + c.scan_digits-after.result.len) c.scan_digits-before.ensures.len) c.scan_digits-after.ensures.len c.scan_digits-after.ensures.rest
+    c.read_power-in-46.ensures
 
 pub returns-in_default : goal.returns-in_default
 returns-in_default c =

@@ -24,6 +24,7 @@ returns-then-parts-ge-PAST c =
 
 pub returns : goal.returns
 returns c =
-    within_answer c.split_sign-signed.result.negative c.in-Some.parts c.reduced.result c.ok_or.result c.if-parts-eq0.false c.if-parts-ge-PAST.false c.if-parts-ge-PAST-2.false c.reduced.ensures c.ok_or.ensures.value
+    within_answer c.split_sign-signed.result.negative c.in-Some.parts c.reduced.result c.ok_or.result c.if-parts-eq0.false c.if-parts-ge-PAST.false
+    c.if-parts-ge-PAST-2.false c.reduced.ensures c.ok_or.ensures.value
     ∙ read_as_literal-answer c.args.bytes.now (Some c.in-Some.parts) c.split_sign-signed.result.negative
     (c.in-Some.ensures ∙ ap (λ xs. option_map quotient_of (body_of xs)) c.split_sign-signed.ensures.rest) c.split_sign-signed.ensures.negative

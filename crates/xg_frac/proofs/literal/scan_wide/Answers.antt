@@ -18,7 +18,8 @@ loop-byte-preserved c =
       counted = omega arith;
       within = omega arith;
       len = omega (arith, ap length next, c.loop-byte.invariant.len);
-      number = capped-digit c.loop-byte.number c.min-number.result d (leading_digits (drop (i + 1) bs)) exact ∙ ap (capped c.loop-byte.number) (sym next) ∙ c.loop-byte.invariant.number;
+      number = capped-digit c.loop-byte.number c.min-number.result d (leading_digits (drop (i + 1) bs)) exact ∙ ap (capped c.loop-byte.number) (sym next)
+          ∙ c.loop-byte.invariant.number;
     }
 
 pub returns-clause-rest : goal.returns-clause-rest

@@ -13,5 +13,6 @@ loop-preserved c =
     ap length c.in_ok-push.ensures.items ∙ length-append c.loop.chances.items (c.zero.result ∷ []) in (
       omega (arith, size, c.loop.invariant.0),
       zero_put c.args.chances.now.items c.loop.chances.items c.push.new.self.items c.zero.result c.zero.ensures c.in_ok-push.ensures.items c.loop.invariant.1,
-      λ kept. subst (All IsSmallFraction) (sym c.in_ok-push.ensures.items) (All-push IsSmallFraction c.loop.chances.items c.zero.result (c.loop.invariant.2 kept) (subst IsSmallFraction (sym c.zero.ensures) zero_small)),
+      λ kept. subst (All IsSmallFraction) (sym c.in_ok-push.ensures.items)
+          (All-push IsSmallFraction c.loop.chances.items c.zero.result (c.loop.invariant.2 kept) (subst IsSmallFraction (sym c.zero.ensures) zero_small)),
     )

@@ -6,4 +6,5 @@ use Rattle.xg_game.proofs.given.same_actions.Given as goal
 
 abbrev pub invariant-loop-i : goal.invariant-loop-i
 invariant-loop-i l =
-    (length l.kept ≡ length (actions_seen l.given)) × (pointwise (same_action l.kind) (drop l.i l.kept) (drop l.i (actions_seen l.given)) ≡ pointwise (same_action l.kind) l.kept (actions_seen l.given))
+    (length l.kept ≡ length (actions_seen l.given)) × (pointwise (same_action l.kind) (drop l.i l.kept) (drop l.i (actions_seen l.given))
+    ≡ pointwise (same_action l.kind) l.kept (actions_seen l.given))

@@ -18,12 +18,14 @@ put_showdown-requires-clause-takes c =
 pub put_answer-requires-clause-takes : goal.put_answer-requires-clause-takes
 unfolding hand
 put_answer-requires-clause-takes c =
-    takes_first _ _ _ (takes_more _ _ _ _ (takes_more _ _ _ _ (takes_more _ _ _ _ c.requires.takes c.in_ok-put_opening.ensures) c.in_ok-put_after_check.ensures) c.in_ok-put_showdown.ensures)
+    takes_first _ _ _ (takes_more _ _ _ _ (takes_more _ _ _ _ (takes_more _ _ _ _ c.requires.takes c.in_ok-put_opening.ensures) c.in_ok-put_after_check.ensures)
+    c.in_ok-put_showdown.ensures)
 
 pub put_after_bet-requires-clause-takes : goal.put_after_bet-requires-clause-takes
 unfolding hand
 put_after_bet-requires-clause-takes c =
-    takes_then _ _ _ _ (takes_more _ _ _ _ (takes_more _ _ _ _ (takes_more _ _ _ _ c.requires.takes c.in_ok-put_opening.ensures) c.in_ok-put_after_check.ensures) c.in_ok-put_showdown.ensures)
+    takes_then _ _ _ _ (takes_more _ _ _ _ (takes_more _ _ _ _ (takes_more _ _ _ _ c.requires.takes c.in_ok-put_opening.ensures)
+    c.in_ok-put_after_check.ensures) c.in_ok-put_showdown.ensures)
     c.in_ok-put_answer.ensures
 
 pub returns : goal.returns

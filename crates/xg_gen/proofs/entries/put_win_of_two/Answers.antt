@@ -16,4 +16,5 @@ put_end-requires-clause-takes c =
 
 pub returns : goal.returns
 returns c =
-    subst (λ (o : OutcomeMention). OnOk c.put_end.result (GainsEntries c.args.maker.now c.put_end.new.maker (leaf_record o ∷ []))) (c.of.ensures.outcome wins_two c.requires.outcomes.twos) c.put_end.ensures
+    subst (λ (o : OutcomeMention). OnOk c.put_end.result (GainsEntries c.args.maker.now c.put_end.new.maker (leaf_record o ∷ [])))
+    (c.of.ensures.outcome wins_two c.requires.outcomes.twos) c.put_end.ensures

@@ -15,7 +15,8 @@ returns-in_err-put_action-clause-text g c =
     let low : i < length xs = omega (arith, c.actions-test.true, c.action_count-i-end.ensures) in
     let back : i + 1 - 1 ≡ i = omega arith in
     let fact = each_fail (action_pieces c.args.kind) _ (g.O.Sink.written c.actions.out) _ xs i no_action low c.actions.invariant.so_far
-    (subst (λ (n : ℕ). AppendsPrefix (g.O.Sink.written c.actions.out) (g.O.Sink.written c.put_action.new.out) (text_of_pieces (action_pieces c.args.kind (get_or xs n no_action)))) back c.in_err-put_action.ensures.text) in
+    (subst (λ (n : ℕ). AppendsPrefix (g.O.Sink.written c.actions.out) (g.O.Sink.written c.put_action.new.out)
+    (text_of_pieces (action_pieces c.args.kind (get_or xs n no_action)))) back c.in_err-put_action.ensures.text) in
     search (rules, fact)
 
 pub actions-preserved : goal.actions-preserved
@@ -26,7 +27,8 @@ actions-preserved g c =
     let back : i + 1 - 1 ≡ i = omega arith in
     record {
       so_far = each_step (action_pieces c.args.kind) _ (g.O.Sink.written c.actions.out) _ xs i no_action low c.actions.invariant.so_far
-          (c.in_ok-put_action.ensures.text ∙ ap (λ (n : ℕ). append_known (g.O.Sink.written c.actions.out) (text_of_pieces (action_pieces c.args.kind (get_or xs n no_action)))) back);
+          (c.in_ok-put_action.ensures.text ∙ ap (λ (n : ℕ). append_known (g.O.Sink.written c.actions.out)
+          (text_of_pieces (action_pieces c.args.kind (get_or xs n no_action)))) back);
       blameless = c.in_ok-put_action.ensures.cause ∙ c.actions.invariant.blameless;
     }
 

@@ -5,11 +5,13 @@ use Rattle.xg_gen.proofs.poker.one_card_poker.Goals as goal
 
 pub put_entries-requires-clause-takes : goal.put_entries-requires-clause-takes
 put_entries-requires-clause-takes c =
-    new_takes c.args.n c.requires.low c.requires.high c.new-maker.result (ap (λ (m : Made). m.spent) c.new-maker.ensures) (ap (λ (m : Made). m.contents) c.new-maker.ensures)
+    new_takes c.args.n c.requires.low c.requires.high c.new-maker.result (ap (λ (m : Made). m.spent) c.new-maker.ensures)
+    (ap (λ (m : Made). m.contents) c.new-maker.ensures)
 
 pub finish-requires-clause-complete : goal.finish-requires-clause-complete
 finish-requires-clause-complete c =
-    then_whole c.args.n c.requires.low c.requires.high c.new-maker.result c.put_entries.new.maker (ap (λ (m : Made). m.contents) c.new-maker.ensures) c.in-Ok.ensures
+    then_whole c.args.n c.requires.low c.requires.high c.new-maker.result c.put_entries.new.maker (ap (λ (m : Made). m.contents) c.new-maker.ensures)
+    c.in-Ok.ensures
 
 pub finish-requires-clause-unspent : goal.finish-requires-clause-unspent
 finish-requires-clause-unspent c =
@@ -19,5 +21,6 @@ pub returns-in-Ok : goal.returns-in-Ok
 returns-in-Ok c =
     c.finish.ensures
     ∙ then_game c.args.n c.new-maker.result c.put_entries.new.maker (ap (λ (m : Made). m.contents) c.new-maker.ensures)
-    (ap (λ (m : Made). m.prologue) c.new-maker.ensures ∙ prologue_as_made c.args.n _ _ _ _ c.in_ok-title.ensures c.in_ok-one.ensures c.in_ok-two.ensures c.in_ok-comment.ensures)
+    (ap (λ (m : Made). m.prologue) c.new-maker.ensures ∙ prologue_as_made c.args.n _ _ _ _ c.in_ok-title.ensures c.in_ok-one.ensures c.in_ok-two.ensures
+    c.in_ok-comment.ensures)
     c.in-Ok.ensures

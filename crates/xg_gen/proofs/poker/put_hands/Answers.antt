@@ -11,7 +11,8 @@ pub put_other_hand-requires-clause-takes : goal.put_other_hand-requires-clause-t
 put_other_hand-requires-clause-takes c = next_takes _ _ _ _ _ _ c.hands.invariant (hands_next c.args.n c.args.i c.hands.j (omega (arith, c.hands-test.true)))
 
 pub hands-preserved : goal.hands-preserved
-hands-preserved c = goes_on _ _ _ _ _ _ _ c.hands.invariant (hands_next c.args.n c.args.i c.hands.j (omega (arith, c.hands-test.true))) c.in_ok-put_other_hand.ensures
+hands-preserved c = goes_on _ _ _ _ _ _ _ c.hands.invariant (hands_next c.args.n c.args.i c.hands.j (omega (arith, c.hands-test.true)))
+    c.in_ok-put_other_hand.ensures
 
 pub returns : goal.returns
 returns c = all_taken _ _ _ _ c.hands.invariant (hands_none c.args.n c.args.i c.hands.j (omega (arith, c.hands-test.false)))

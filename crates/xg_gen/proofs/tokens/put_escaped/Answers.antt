@@ -11,7 +11,8 @@ pub returns-in_err-put_marked-clause-text : goal.returns-in_err-put_marked-claus
 returns-in_err-put_marked-clause-text g c =
     let rest = c.marks.rest.now in
     let k = c.in-Some.mark in
-    let fact = fails _ (g.O.Sink.written c.marks.out) (g.O.Sink.written c.put_marked.new.out) (escaped c.args.bytes.now) _ (take k rest ++ 92 ∷ 34 ∷ []) _ c.marks.invariant.so_far
+    let fact = fails _ (g.O.Sink.written c.marks.out) (g.O.Sink.written c.put_marked.new.out) (escaped c.args.bytes.now) _ (take k rest ++ 92 ∷ 34 ∷ []) _
+    c.marks.invariant.so_far
     (to_first_mark k rest c.in-Some.ensures.0 c.in-Some.ensures.1) c.in_err-put_marked.ensures.text in
     search (rules, fact)
 
@@ -34,4 +35,5 @@ pub returns-clause-text : goal.returns-clause-text
 returns-clause-text g c =
     let written : Writes (g.O.Sink.written c.marks.out) (g.O.Sink.written c.write_all.new.sink) c.marks.rest.now c.write_all.result = search rules in
     finishes _ (g.O.Sink.written c.marks.out) _ (escaped c.args.bytes.now) _ c.write_all.result c.marks.invariant.so_far
-    (subst (λ (t : List ℕ). Writes (g.O.Sink.written c.marks.out) (g.O.Sink.written c.write_all.new.sink) t c.write_all.result) (sym (no_mark c.marks.rest.now c.in_default.ensures)) written)
+    (subst (λ (t : List ℕ). Writes (g.O.Sink.written c.marks.out) (g.O.Sink.written c.write_all.new.sink) t c.write_all.result)
+    (sym (no_mark c.marks.rest.now c.in_default.ensures)) written)

@@ -6,7 +6,8 @@ use Rattle.xg_gen.proofs.Written.{empty_token, quoted_token}
 use Rattle.xg_gen.proofs.tokens.put_text.Goals as goal
 
 pub returns-clause-text : goal.returns-clause-text
-returns-clause-text g c = quoted_token (g.O.Sink.written c.args.out.now) (g.O.Sink.written c.put_quoted.new.out) (32 ∷ []) c.args.bytes.now c.put_quoted.result c.put_quoted.ensures.text
+returns-clause-text g c = quoted_token (g.O.Sink.written c.args.out.now) (g.O.Sink.written c.put_quoted.new.out) (32 ∷ []) c.args.bytes.now c.put_quoted.result
+    c.put_quoted.ensures.text
 
 pub returns-then-is_empty-clause-text : goal.returns-then-is_empty-clause-text
 returns-then-is_empty-clause-text g c =

@@ -11,4 +11,5 @@ returns-then-is_err-clause-prefix g c =
 pub returns-clause-prefix : goal.returns-clause-prefix
 returns-clause-prefix g c =
     let filled = without_err c.fill-page.result.1 (sym c.is_err.ensures.value ∙ c.if-is_err.false) c.fill-page.ensures.appended in
-    on_err_weaker c.turn-page.result (λ some. front_before_waiting _ _ _ _ (c.turn-page.ensures.grown g.L.Lender.before c.fill-page.ensures.grown) some (c.turn-page.ensures.same_written ∙ filled)) c.turn-page.ensures.some_wait
+    on_err_weaker c.turn-page.result (λ some. front_before_waiting _ _ _ _ (c.turn-page.ensures.grown g.L.Lender.before c.fill-page.ensures.grown) some
+    (c.turn-page.ensures.same_written ∙ filled)) c.turn-page.ensures.some_wait

@@ -6,10 +6,12 @@ use Rattle.xg_io.proofs.FilesInMemory.{absent, located, in_list}
 use Rattle.xg_io.proofs.stored.find_file.Goals as goal
 
 pub returns-clause-found : goal.returns-clause-found
-returns-clause-found c = located (option_map (λ (file : Stored). file.bytes.items)) (λ file. pointwise nat_eq file.name.items c.args.name.now) c.args.files.now _ c.position_of.ensures
+returns-clause-found c = located (option_map (λ (file : Stored). file.bytes.items)) (λ file. pointwise nat_eq file.name.items c.args.name.now) c.args.files.now
+    _ c.position_of.ensures
 
 pub returns-clause-absent : goal.returns-clause-absent
-returns-clause-absent c = absent (option_map (λ (file : Stored). file.bytes.items)) (λ file. pointwise nat_eq file.name.items c.args.name.now) c.args.files.now _ refl c.position_of.ensures
+returns-clause-absent c = absent (option_map (λ (file : Stored). file.bytes.items)) (λ file. pointwise nat_eq file.name.items c.args.name.now) c.args.files.now
+    _ refl c.position_of.ensures
 
 pub returns-clause-within : goal.returns-clause-within
 returns-clause-within c = in_list (λ (file : Stored). pointwise nat_eq file.name.items c.args.name.now) c.args.files.now _ c.position_of.ensures

@@ -18,12 +18,15 @@ pub returns-in-44-clause-value : goal.returns-in-44-clause-value
 returns-in-44-clause-value c = comma_here c.args.bytes.now c.args.start (omega arith) c.in-44.is
 
 pub returns-in_default-clause-value : goal.returns-in_default-clause-value
-returns-in_default-clause-value c = ap Ok c.run_at.ensures.value ∙ word_here c.args.bytes.now c.args.start (omega arith) (search (rules, c.if-begins_word.ensures))
+returns-in_default-clause-value c = ap Ok c.run_at.ensures.value ∙ word_here c.args.bytes.now c.args.start (omega arith)
+    (search (rules, c.if-begins_word.ensures))
 
 pub returns-in_default-2-clause-value : goal.returns-in_default-2-clause-value
 returns-in_default-2-clause-value c =
-    ap Ok c.run_at-in_default-2.ensures.value ∙ number_here c.args.bytes.now c.args.start (omega arith) (search (rules, c.if-begins_word.ensures)) (search (rules, c.if-begins_number.ensures))
+    ap Ok c.run_at-in_default-2.ensures.value ∙ number_here c.args.bytes.now c.args.start (omega arith) (search (rules, c.if-begins_word.ensures))
+    (search (rules, c.if-begins_number.ensures))
 
 pub returns-in_default-3-clause-value : goal.returns-in_default-3-clause-value
 returns-in_default-3-clause-value c =
-    fault_here c.args.bytes.now c.args.start (omega arith) (omega arith) (omega arith) (omega arith) (omega arith) (search (rules, c.if-begins_word.ensures)) (search (rules, c.if-begins_number.ensures))
+    fault_here c.args.bytes.now c.args.start (omega arith) (omega arith) (omega arith) (omega arith) (omega arith) (search (rules, c.if-begins_word.ensures))
+    (search (rules, c.if-begins_number.ensures))

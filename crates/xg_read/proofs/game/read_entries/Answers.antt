@@ -10,7 +10,8 @@ returns-in_err-take_entry-clause-exact c =
     let p = err_from_is_err_and c.from_residual.result c.from_residual.ensures.1 in
     rw (p.1, p.2)
     (stopped _ c.take_entry.new.maker.contents (c.args.most - c.entries.counter) c.entries.maker.contents _ c.args.reader.now.whole c.entries.reader.whole
-    c.entries.reader.at c.take_entry.new.reader.at _ _ c.entries.invariant.rest c.entries.invariant.whole (omega arith) unwhole c.in_err-take_entry.ensures.exact)
+    c.entries.reader.at c.take_entry.new.reader.at _ _ c.entries.invariant.rest c.entries.invariant.whole (omega arith) unwhole
+    c.in_err-take_entry.ensures.exact)
 
 pub entries-preserved : goal.entries-preserved
 entries-preserved c =
@@ -20,6 +21,8 @@ entries-preserved c =
       unspent = step.unspent;
       prologue = step.prologue ∙ c.entries.invariant.prologue;
       whole = step.whole ∙ c.entries.invariant.whole;
-      rest = c.entries.invariant.rest ∙ entries_next (c.args.most - c.entries.counter) (c.args.most - (c.entries.counter + 1)) c.entries.maker.contents c.take_entry.new.maker.contents
-          c.args.reader.now.whole c.entries.reader.whole c.entries.reader.at c.take_entry.new.reader.at c.entries.invariant.whole (omega arith) unwhole step.exact;
+      rest = c.entries.invariant.rest ∙ entries_next (c.args.most - c.entries.counter) (c.args.most - (c.entries.counter + 1)) c.entries.maker.contents
+          c.take_entry.new.maker.contents
+          c.args.reader.now.whole c.entries.reader.whole c.entries.reader.at c.take_entry.new.reader.at c.entries.invariant.whole (omega arith) unwhole
+          step.exact;
     }

@@ -6,7 +6,12 @@ use Rattle.xg_seq.proofs.rows.table_of.Goals as goal
 
 pub set_numbers_of-requires : goal.set_numbers_of-requires
 set_numbers_of-requires c =
-    omega (arith, rows_are_few c.in_ok-rows.rows.items (of_player c.args.player c.args.sets.now).sets c.in_ok-rows.ensures c.requires.order, c.requires.limit, ap length c.deref.ensures.value)
+    omega (
+      arith,
+      rows_are_few c.in_ok-rows.rows.items (of_player c.args.player c.args.sets.now).sets c.in_ok-rows.ensures c.requires.order,
+      c.requires.limit,
+      ap length c.deref.ensures.value,
+    )
 
 pub of-requires : goal.of-requires
 of-requires c =

@@ -14,12 +14,14 @@ walk-requires c =
 pub returns-in-Some-clause-broken : goal.returns-in-Some-clause-broken
 returns-in-Some-clause-broken c =
     let before = c.in_ok-visitor.ensures in
-    tells_break c.args.tree.now before.rules c.in-Some.fault (ends_broken c.args.tree.now before.rules c.in_ok-visitor.visitor c.walk.new.visitor before c.walk.ensures c.in-Some.fault c.in-Some.is)
+    tells_break c.args.tree.now before.rules c.in-Some.fault (ends_broken c.args.tree.now before.rules c.in_ok-visitor.visitor c.walk.new.visitor before
+    c.walk.ensures c.in-Some.fault c.in-Some.is)
 
 pub returns-in-Some-clause-first_break : goal.returns-in-Some-clause-first_break
 returns-in-Some-clause-first_break c =
     let before = c.in_ok-visitor.ensures in
-    is_first_break c.args.tree.now before.rules c.in-Some.fault (ends_broken c.args.tree.now before.rules c.in_ok-visitor.visitor c.walk.new.visitor before c.walk.ensures c.in-Some.fault c.in-Some.is)
+    is_first_break c.args.tree.now before.rules c.in-Some.fault (ends_broken c.args.tree.now before.rules c.in_ok-visitor.visitor c.walk.new.visitor before
+    c.walk.ensures c.in-Some.fault c.in-Some.is)
 
 pub of-requires-clause-few_one : goal.of-requires-clause-few_one
 of-requires-clause-few_one c =

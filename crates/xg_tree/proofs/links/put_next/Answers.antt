@@ -24,7 +24,14 @@ set_next-requires-2 c =
     let x : Links = link_numbers c.next_place-place.result.parent c.first_below.result c.args.children in
     let low : (next_place links).parent ≤ length links = place_low links c.requires.ordered in
     let pushed : c.push_reserved.new.self.items ≡ links ++ x ∷ [] = search rules in
-    omega (arith, ap (λ p. p.parent) (c.next_place-place.ensures ∙ ap next_place c.deref.ensures.value), ap length pushed, length-append links (x ∷ []), ap length c.set_next.ensures, length-with_next c.push_reserved.new.self.items c.next_place-place.result.previous (c.len.result + 1))
+    omega (
+      arith,
+      ap (λ p. p.parent) (c.next_place-place.ensures ∙ ap next_place c.deref.ensures.value),
+      ap length pushed,
+      length-append links (x ∷ []),
+      ap length c.set_next.ensures,
+      length-with_next c.push_reserved.new.self.items c.next_place-place.result.previous (c.len.result + 1),
+    )
 
 pub returns : goal.returns
 returns c =
@@ -38,6 +45,8 @@ returns c =
     let to_come : c.saturating_sub.result ≡ (links_at links place.parent).next_sibling - 1 =
     c.saturating_sub.ensures ∙ ap (λ l. l.next_sibling - 1) (c.links_at-to_come.ensures ∙ ap (λ l. links_at l place.parent) c.deref-2.ensures.value)
     in let count : c.len.result ≡ length links = c.len.ensures ∙ c.args.links.now.ok.0 in
-    c.set_next-2.ensures ∙ ap (λ l. with_next l place.parent c.saturating_sub.result) (c.set_next.ensures ∙ ap (λ l. with_next l place.previous (c.len.result + 1)) pushed)
-    ∙ told_front links x place.previous (c.len.result + 1) place.parent c.saturating_sub.result (omega (arith, ap (λ p. p.previous) is)) (omega (arith, ap (λ p. p.parent) is))
+    c.set_next-2.ensures ∙ ap (λ l. with_next l place.parent c.saturating_sub.result)
+    (c.set_next.ensures ∙ ap (λ l. with_next l place.previous (c.len.result + 1)) pushed)
+    ∙ told_front links x place.previous (c.len.result + 1) place.parent c.saturating_sub.result (omega (arith, ap (λ p. p.previous) is))
+    (omega (arith, ap (λ p. p.parent) is))
     ∙ put_is links place c.len.result c.first_below.result c.saturating_sub.result c.args.children is count c.first_below.ensures to_come

@@ -6,7 +6,8 @@ use Rattle.xg_tree.proofs.tree.leave_from.Given as goal
 abbrev pub invariant-loop-left : goal.invariant-loop-left
 invariant-loop-left g l = record {
   there : l.left ≤ length l.links;
-  going : IsGoing g.V.Visitor.may_enter g.V.Visitor.enters g.V.Visitor.may_leave g.V.Visitor.leaves (leaving l.links l.k) l.fn.visitor (leaving l.links l.left) l.visitor;
+  going : IsGoing g.V.Visitor.may_enter g.V.Visitor.enters g.V.Visitor.may_leave g.V.Visitor.leaves (leaving l.links l.k) l.fn.visitor (leaving l.links l.left)
+      l.visitor;
 }
 
 abbrev pub decreases-loop-left : goal.decreases-loop-left

@@ -20,9 +20,11 @@ unfolding digits each_items items_text
 returns-clause-no_round c = refl
 
 pub returns-clause-no_certificate : goal.returns-clause-no_certificate
-unfolding items_text each_items versioned_in version_in read_field whole_in integer_in fraction_in nonzero_in read_each read_row read_last read_number gcd digits
+unfolding items_text each_items versioned_in version_in read_field whole_in integer_in fraction_in nonzero_in read_each read_row read_last read_number gcd
+    digits
 returns-clause-no_certificate c = refl
 
 pub returns-clause-as_certificate : goal.returns-clause-as_certificate
-unfolding items_text each_items versioned_in version_in read_field whole_in integer_in fraction_in nonzero_in read_each read_row read_last read_number gcd digits
+unfolding items_text each_items versioned_in version_in read_field whole_in integer_in fraction_in nonzero_in read_each read_row read_last read_number gcd
+    digits
 returns-clause-as_certificate c = refl

@@ -6,4 +6,5 @@ use Rattle.xg_game.proofs.FractionLemmas.{actions_small}
 use Rattle.xg_game.proofs.actions.KeptActions.chances_are_small.Goals as goal
 
 pub returns : goal.returns
-returns c = subst (λ (actions : List Action). All (λ (a : Action). IsSmallFraction a.chance) actions) c.self.view_is (actions_small c.self.inside.names c.self.inside.chances.items c.self.invariant.small)
+returns c = subst (λ (actions : List Action). All (λ (a : Action). IsSmallFraction a.chance) actions) c.self.view_is
+    (actions_small c.self.inside.names c.self.inside.chances.items c.self.invariant.small)

@@ -12,4 +12,5 @@ pub returns : goal.returns
 returns c =
     ap (λ (actions : List Action). slice_get actions c.args.i) (sym c.self.view_is)
     ∙ action_at c.self.inside.names c.self.inside.chances.items c.args.i c.get.result.now c.get.ensures
-    ∙ ap (λ (chance : Fraction). Some (action_with c.get.result.now chance)) (ap (λ (chances : List Fraction). slice_index_or chances c.args.i zero_fraction) (sym c.deref.ensures.value) ∙ sym c.chance_at.ensures)
+    ∙ ap (λ (chance : Fraction). Some (action_with c.get.result.now chance))
+    (ap (λ (chances : List Fraction). slice_index_or chances c.args.i zero_fraction) (sym c.deref.ensures.value) ∙ sym c.chance_at.ensures)

@@ -27,15 +27,18 @@ returns-then-is_zero-clause-ok c =
 
 pub returns-then-is_zero-clause-kept : goal.returns-then-is_zero-clause-kept
 returns-then-is_zero-clause-kept c =
-    grows c.self.inside.names c.push_view.new.self c.args.name.now c.self.inside.chances.items c.self.inside.chances.items c.args.self.now c.self.view_is c.in_ok-push_view.ensures.ok
+    grows c.self.inside.names c.push_view.new.self c.args.name.now c.self.inside.chances.items c.self.inside.chances.items c.args.self.now c.self.view_is
+    c.in_ok-push_view.ensures.ok
 
 pub returns-in_err-pad-clause-kept : goal.returns-in_err-pad-clause-kept
 returns-in_err-pad-clause-kept c =
-    grows c.self.inside.names c.push_view.new.self c.args.name.now c.self.inside.chances.items c.pad.new.chances.items c.args.self.now c.self.view_is c.in_ok-push_view.ensures.ok
+    grows c.self.inside.names c.push_view.new.self c.args.name.now c.self.inside.chances.items c.pad.new.chances.items c.args.self.now c.self.view_is
+    c.in_ok-push_view.ensures.ok
 
 pub returns-in_err-push-clause-kept : goal.returns-in_err-push-clause-kept
 returns-in_err-push-clause-kept c =
-    grows c.self.inside.names c.push_view.new.self c.args.name.now c.self.inside.chances.items c.push.new.self.items c.args.self.now c.self.view_is c.in_ok-push_view.ensures.ok
+    grows c.self.inside.names c.push_view.new.self c.args.name.now c.self.inside.chances.items c.push.new.self.items c.args.self.now c.self.view_is
+    c.in_ok-push_view.ensures.ok
 
 pub returns-clause-ok : goal.returns-clause-ok
 returns-clause-ok c =
@@ -50,4 +53,5 @@ returns-clause-ok c =
 
 pub returns-clause-kept : goal.returns-clause-kept
 returns-clause-kept c =
-    grows c.self.inside.names c.push_view.new.self c.args.name.now c.self.inside.chances.items c.push.new.self.items c.args.self.now c.self.view_is c.in_ok-push_view.ensures.ok
+    grows c.self.inside.names c.push_view.new.self c.args.name.now c.self.inside.chances.items c.push.new.self.items c.args.self.now c.self.view_is
+    c.in_ok-push_view.ensures.ok

@@ -13,5 +13,6 @@ returns-clause-few c =
     let from_one : 1 ≤ c.args.set = c.requires.from_one in
     let there : c.args.set ≤ length (sets_of_kind c.args.kind c.args.self.now.sets) = c.requires.there in
     let within : c.args.set - 1 < length table = omega (arith, ap (length {A = SetEntry}) same) in
-    let few = set_few (prefix c.self.inside.tree) c.self.inside.names c.self.inside.sets c.self.inside.outcomes c.self.invariant.together c.args.kind c.requires.kind (c.args.set - 1) within in
+    let few = set_few (prefix c.self.inside.tree) c.self.inside.names c.self.inside.sets c.self.inside.outcomes c.self.invariant.together c.args.kind
+    c.requires.kind (c.args.set - 1) within in
     omega (arith, few.1, ap (length {A = content.Action}) c.get.ensures.actions, ap (λ t. length (set_at t (c.args.set - 1)).actions) c.of.ensures)

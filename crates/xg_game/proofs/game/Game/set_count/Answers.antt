@@ -6,6 +6,7 @@ use Rattle.xg_game.proofs.game.Game.set_count.Goals as goal
 
 pub overflow_cast-result : goal.overflow_cast-result
 overflow_cast-result c =
-    let short : length (sets_of_kind c.args.kind c.self.inside.sets) ≤ 1048576 = sets_short (prefix c.self.inside.tree) c.self.inside.names c.self.inside.sets c.self.inside.outcomes c.self.invariant.together c.args.kind in
+    let short : length (sets_of_kind c.args.kind c.self.inside.sets) ≤ 1048576 = sets_short (prefix c.self.inside.tree) c.self.inside.names c.self.inside.sets
+    c.self.inside.outcomes c.self.invariant.together c.args.kind in
     let same : c.len.result ≡ length (sets_of_kind c.args.kind c.self.inside.sets) = c.len.ensures ∙ ap (length {A = SetEntry}) c.of.ensures in
     omega (arith, short, same)

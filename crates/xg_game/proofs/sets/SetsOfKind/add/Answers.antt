@@ -26,7 +26,8 @@ invariant_of-self-2 c =
     let known : KnownSet = record { name = c.in_ok-name.name; value = c.in_ok-span.span } in
     let span = c.in_ok-span.ensures.span in
     let more : length c.self.inside.actions ≤ length c.add.new.self = c.add.ensures.kept in
-    within_put c.push.result (length c.self.inside.actions) (length c.add.new.self) c.self.inside.sets c.push.new.self (c.args.number, known) c.self.invariant more (omega (arith, more, span.0, span.1), omega (arith, span.1)) c.push.ensures.ok c.push.ensures.err
+    within_put c.push.result (length c.self.inside.actions) (length c.add.new.self) c.self.inside.sets c.push.new.self (c.args.number, known) c.self.invariant
+    more (omega (arith, more, span.0, span.1), omega (arith, span.1)) c.push.ensures.ok c.push.ensures.err
 
 pub returns : goal.returns
 returns c =
@@ -35,5 +36,7 @@ returns c =
     let span = c.in_ok-span.ensures.span in
     on_ok_weaker c.push.result (λ put.
     ap (map (set_of c.add.new.self)) put
-    ∙ set_added all (actions_seen c.args.actions.now) c.add.new.self c.self.inside.sets c.args.number known c.self.invariant c.in_ok-span.ensures.ok span.0 span.1
-    ∙ (λ j. c.self.view_is j ++ record { number = c.args.number; name = c.in_ok-name.ensures j; actions = actions_seen c.args.actions.now } ∷ [])) c.push.ensures.ok
+    ∙ set_added all (actions_seen c.args.actions.now) c.add.new.self c.self.inside.sets c.args.number known c.self.invariant c.in_ok-span.ensures.ok span.0
+    span.1
+    ∙ (λ j. c.self.view_is j ++ record { number = c.args.number; name = c.in_ok-name.ensures j; actions = actions_seen c.args.actions.now } ∷ []))
+    c.push.ensures.ok

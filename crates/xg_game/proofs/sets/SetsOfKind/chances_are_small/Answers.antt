@@ -6,4 +6,5 @@ use Rattle.xg_game.proofs.FractionLemmas.{sets_small}
 use Rattle.xg_game.proofs.sets.SetsOfKind.chances_are_small.Goals as goal
 
 pub returns : goal.returns
-returns c = subst (λ (sets : List SetEntry). All (λ (e : SetEntry). All IsSmallFraction (chances_of e)) sets) c.self.view_is (sets_small c.self.inside.actions c.self.inside.sets c.chances_are_small.ensures)
+returns c = subst (λ (sets : List SetEntry). All (λ (e : SetEntry). All IsSmallFraction (chances_of e)) sets) c.self.view_is
+    (sets_small c.self.inside.actions c.self.inside.sets c.chances_are_small.ensures)

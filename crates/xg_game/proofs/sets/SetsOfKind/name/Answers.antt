@@ -13,7 +13,8 @@ returns-clause-ok c =
     let all = c.self.inside.actions in
     let within : c.args.i < length es = omega (arith, length-map es (set_of all), ap (length {A = SetEntry}) c.self.view_is) in
     let found = there es c.args.i within in
-    on_ok_weaker c.name.result (set_renamed all es c.name.new.self c.args.self.now c.args.i found.0 c.args.name.now found.1 c.self.view_is) (c.name.ensures.ok found.0 found.1)
+    on_ok_weaker c.name.result (set_renamed all es c.name.new.self c.args.self.now c.args.i found.0 c.args.name.now found.1 c.self.view_is)
+    (c.name.ensures.ok found.0 found.1)
 
 pub returns-clause-err : goal.returns-clause-err
 returns-clause-err c =
@@ -25,4 +26,5 @@ invariant_of-self c =
     let all = c.self.inside.actions in
     let within : c.args.i < length es = omega (arith, length-map es (set_of all), ap (length {A = SetEntry}) c.self.view_is) in
     let found = there es c.args.i within in
-    within_given c.name.result (length all) es c.name.new.self c.args.i found.0 (kept_name found.0.1.name c.args.name.now) found.1 c.self.invariant (c.name.ensures.ok found.0 found.1) c.name.ensures.err
+    within_given c.name.result (length all) es c.name.new.self c.args.i found.0 (kept_name found.0.1.name c.args.name.now) found.1 c.self.invariant
+    (c.name.ensures.ok found.0 found.1) c.name.ensures.err

@@ -7,7 +7,8 @@ use Rattle.xg_game.proofs.table.NumberTable.find.Goals as goal
 
 pub returns-clause-place : goal.returns-clause-place
 returns-clause-place g c =
-    c.find.ensures.place ∙ ap (position (nat_eq c.args.number)) (sym (keys_of-zip c.self.inside.numbers c.self.inside.known.items c.self.invariant) ∙ ap keys_of c.self.view_is)
+    c.find.ensures.place ∙ ap (position (nat_eq c.args.number)) (sym (keys_of-zip c.self.inside.numbers c.self.inside.known.items c.self.invariant)
+    ∙ ap keys_of c.self.view_is)
 
 pub returns-clause-within : goal.returns-clause-within
 returns-clause-within g c =

@@ -11,4 +11,5 @@ index_mut-requires g c =
 pub returns-clause-ok : goal.returns-clause-ok
 returns-clause-ok g c e at =
     on_ok_weaker c.keep_name.result (λ kept.
-    named c.self.inside.numbers c.self.inside.known.items c.args.self.now c.args.i e c.index_mut.result.now c.args.name.now c.keep_name.new.kept c.self.view_is c.index_mut.ensures.value kept at) c.keep_name.ensures.ok
+    named c.self.inside.numbers c.self.inside.known.items c.args.self.now c.args.i e c.index_mut.result.now c.args.name.now c.keep_name.new.kept c.self.view_is
+    c.index_mut.ensures.value kept at) c.keep_name.ensures.ok

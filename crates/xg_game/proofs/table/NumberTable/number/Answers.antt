@@ -11,4 +11,5 @@ get-requires g c =
 
 pub returns : goal.returns
 returns g c =
-    ap (λ (ns : List ℕ). slice_get ns c.args.i) (ap keys_of (sym c.self.view_is) ∙ keys_of-zip c.self.inside.numbers c.self.inside.known.items c.self.invariant) ∙ c.get.ensures
+    ap (λ (ns : List ℕ). slice_get ns c.args.i) (ap keys_of (sym c.self.view_is) ∙ keys_of-zip c.self.inside.numbers c.self.inside.known.items c.self.invariant)
+    ∙ c.get.ensures

@@ -6,7 +6,8 @@ use Rattle.xg_game.proofs.table.NumberTable.push.Goals as goal
 
 pub push-requires-clause-new : goal.push-requires-clause-new
 push-requires-clause-new g c =
-    ap (position (nat_eq c.args.number)) (sym (keys_of-zip c.self.inside.numbers c.self.inside.known.items c.self.invariant) ∙ ap keys_of c.self.view_is) ∙ c.requires.new
+    ap (position (nat_eq c.args.number)) (sym (keys_of-zip c.self.inside.numbers c.self.inside.known.items c.self.invariant) ∙ ap keys_of c.self.view_is)
+    ∙ c.requires.new
 
 pub push-requires-clause-room : goal.push-requires-clause-room
 push-requires-clause-room g c =
@@ -15,5 +16,6 @@ push-requires-clause-room g c =
 
 pub returns-clause-ok : goal.returns-clause-ok
 returns-clause-ok g c =
-    pushed c.self.inside.numbers c.push.new.self c.self.inside.known.items c.reserve.new.self.items c.push_reserved.new.self.items c.args.self.now c.args.number (record { name = c.args.name; value = c.args.value }) c.self.invariant
+    pushed c.self.inside.numbers c.push.new.self c.self.inside.known.items c.reserve.new.self.items c.push_reserved.new.self.items c.args.self.now c.args.number
+    (record { name = c.args.name; value = c.args.value }) c.self.invariant
     c.in_ok-push.ensures.ok c.reserve.ensures.items c.push_reserved.ensures.items c.self.view_is

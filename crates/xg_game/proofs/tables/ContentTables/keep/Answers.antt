@@ -12,7 +12,8 @@ pub push-requires-clause-fits : goal.push-requires-clause-fits
 push-requires-clause-fits c =
     let node : Node = node_with c.args.self.now (entry_seen c.args.entry.now) in
     subst (Fits c.self.inside.nodes) (sym c.node_with-node.ensures)
-    (subst (λ (contents : Contents). Fits contents.nodes node) (sym c.self.view_is) (node_fits c.args.self.now (entry_seen c.args.entry.now) c.requires.consistent c.requires.faultless))
+    (subst (λ (contents : Contents). Fits contents.nodes node) (sym c.self.view_is)
+    (node_fits c.args.self.now (entry_seen c.args.entry.now) c.requires.consistent c.requires.faultless))
 
 pub note-requires-clause-room : goal.note-requires-clause-room
 note-requires-clause-room c =

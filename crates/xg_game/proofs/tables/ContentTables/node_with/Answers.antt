@@ -14,7 +14,8 @@ number_with-requires-clause-room c =
     let now : Contents = c.args.self.now in
     let short : length (sets_of_kind (mover r) now.sets) ≤ 1048576 = sets_short now.nodes now.names now.sets now.outcomes c.requires.consistent (mover r) in
     let same : c.of-table.result.now ≡ sets_of_kind (mover r) now.sets =
-    c.of-table.ensures ∙ ap (λ kind. sets_of_kind kind c.self.inside.sets) c.mover-kind.ensures ∙ ap (λ (t : Contents). sets_of_kind (mover r) t.sets) c.self.view_is in
+    c.of-table.ensures ∙ ap (λ kind. sets_of_kind kind c.self.inside.sets) c.mover-kind.ensures
+    ∙ ap (λ (t : Contents). sets_of_kind (mover r) t.sets) c.self.view_is in
     omega (arith, short, ap (length {A = SetEntry}) same)
 
 pub action_count_with-requires-clause-few : goal.action_count_with-requires-clause-few
@@ -22,7 +23,8 @@ action_count_with-requires-clause-few c =
     let r : content.Record = entry_seen c.args.entry.now in
     let table : List SetEntry = sets_of_kind (mover r) c.args.self.now.sets in
     let same : c.of-table.result.now ≡ table =
-    c.of-table.ensures ∙ ap (λ kind. sets_of_kind kind c.self.inside.sets) c.mover-kind.ensures ∙ ap (λ (t : Contents). sets_of_kind (mover r) t.sets) c.self.view_is in
+    c.of-table.ensures ∙ ap (λ kind. sets_of_kind kind c.self.inside.sets) c.mover-kind.ensures
+    ∙ ap (λ (t : Contents). sets_of_kind (mover r) t.sets) c.self.view_is in
     let has : has_set r.kind ≡ true = sym c.has_set.ensures ∙ c.if-not-has_set.false in
     let few : cond (has_set r.kind) (action_count table r.set) 0 ≤ 1024 =
     children-le c.args.self.now.nodes (node_with c.args.self.now r) (node_fits c.args.self.now r c.requires.consistent c.requires.faultless) in

@@ -21,7 +21,8 @@ between-requires-clause-rise c =
     let ends : List ℕ = c.self.inside.ends.items in
     let bytes : List ℕ = c.self.inside.bytes.items in
     let there : c.args.i < length ends = omega (arith, length-cut_from 0 ends bytes, ap (length {A = List ℕ}) c.self.view_is, c.requires) in
-    let text = text_at 0 ends bytes c.args.i c.start_of.result c.index.result.now c.self.invariant there (c.start_of.ensures ∙ ap (λ (ns : List ℕ). get_or (0 ∷ ns) c.args.i 0) c.deref-2.ensures.value) c.index.ensures in
+    let text = text_at 0 ends bytes c.args.i c.start_of.result c.index.result.now c.self.invariant there
+    (c.start_of.ensures ∙ ap (λ (ns : List ℕ). get_or (0 ∷ ns) c.args.i 0) c.deref-2.ensures.value) c.index.ensures in
     text.rise
 
 pub between-requires-clause-within : goal.between-requires-clause-within
@@ -29,7 +30,8 @@ between-requires-clause-within c =
     let ends : List ℕ = c.self.inside.ends.items in
     let bytes : List ℕ = c.self.inside.bytes.items in
     let there : c.args.i < length ends = omega (arith, length-cut_from 0 ends bytes, ap (length {A = List ℕ}) c.self.view_is, c.requires) in
-    let text = text_at 0 ends bytes c.args.i c.start_of.result c.index.result.now c.self.invariant there (c.start_of.ensures ∙ ap (λ (ns : List ℕ). get_or (0 ∷ ns) c.args.i 0) c.deref-2.ensures.value) c.index.ensures in
+    let text = text_at 0 ends bytes c.args.i c.start_of.result c.index.result.now c.self.invariant there
+    (c.start_of.ensures ∙ ap (λ (ns : List ℕ). get_or (0 ∷ ns) c.args.i 0) c.deref-2.ensures.value) c.index.ensures in
     rw c.deref.ensures.value text.within
 
 pub returns : goal.returns
@@ -37,6 +39,8 @@ returns c =
     let ends : List ℕ = c.self.inside.ends.items in
     let bytes : List ℕ = c.self.inside.bytes.items in
     let there : c.args.i < length ends = omega (arith, length-cut_from 0 ends bytes, ap (length {A = List ℕ}) c.self.view_is, c.requires) in
-    let text = text_at 0 ends bytes c.args.i c.start_of.result c.index.result.now c.self.invariant there (c.start_of.ensures ∙ ap (λ (ns : List ℕ). get_or (0 ∷ ns) c.args.i 0) c.deref-2.ensures.value) c.index.ensures in
+    let text = text_at 0 ends bytes c.args.i c.start_of.result c.index.result.now c.self.invariant there
+    (c.start_of.ensures ∙ ap (λ (ns : List ℕ). get_or (0 ∷ ns) c.args.i 0) c.deref-2.ensures.value) c.index.ensures in
     ap (λ (ts : List (List ℕ)). slice_get ts c.args.i) (sym c.self.view_is) ∙ text.text
-    ∙ ap Some (ap (λ (bs : List ℕ). take (c.index.result.now - c.start_of.result) (drop c.start_of.result bs)) (sym c.deref.ensures.value) ∙ sym c.between.ensures)
+    ∙ ap Some (ap (λ (bs : List ℕ). take (c.index.result.now - c.start_of.result) (drop c.start_of.result bs)) (sym c.deref.ensures.value)
+    ∙ sym c.between.ensures)

@@ -5,7 +5,13 @@ use Rattle.xg_io.proofs.FilesInMemory.{reads_on, reads_none}
 use Rattle.xg_io.proofs.memory_files.MemFilesFiles.read.Goals as goal
 
 pub returns-clause-bytes : goal.returns-clause-bytes
-returns-clause-bytes c = reads_on (stored_bytes_at c.args.self.now.files.items) c.args.self.now.current c.in-Some.place c.args.self.now.taken c.copy_front-n.result c.bytes_of_file-bytes.result.now c.from_place.result.now _ c.in-Some.is (ap (λ (files : List Stored). stored_bytes_at files c.in-Some.place) (sym c.as_slice.ensures.value) ∙ c.bytes_of_file-bytes.ensures) c.from_place.ensures c.copy_front-n.ensures.copied
+returns-clause-bytes c = reads_on (stored_bytes_at c.args.self.now.files.items) c.args.self.now.current c.in-Some.place c.args.self.now.taken
+    c.copy_front-n.result c.bytes_of_file-bytes.result.now c.from_place.result.now _ c.in-Some.is
+    (ap (λ (files : List Stored). stored_bytes_at files c.in-Some.place) (sym c.as_slice.ensures.value) ∙ c.bytes_of_file-bytes.ensures) c.from_place.ensures
+    c.copy_front-n.ensures.copied
 
 pub returns-clause-end : goal.returns-clause-end
-returns-clause-end c = reads_none (stored_bytes_at c.args.self.now.files.items) c.args.self.now.current c.in-Some.place c.args.self.now.taken c.copy_front-n.result _ c.bytes_of_file-bytes.result.now c.from_place.result.now c.in-Some.is (ap (λ (files : List Stored). stored_bytes_at files c.in-Some.place) (sym c.as_slice.ensures.value) ∙ c.bytes_of_file-bytes.ensures) c.from_place.ensures c.copy_front-n.ensures.count c.requires.room
+returns-clause-end c = reads_none (stored_bytes_at c.args.self.now.files.items) c.args.self.now.current c.in-Some.place c.args.self.now.taken
+    c.copy_front-n.result _ c.bytes_of_file-bytes.result.now c.from_place.result.now c.in-Some.is
+    (ap (λ (files : List Stored). stored_bytes_at files c.in-Some.place) (sym c.as_slice.ensures.value) ∙ c.bytes_of_file-bytes.ensures) c.from_place.ensures
+    c.copy_front-n.ensures.count c.requires.room

@@ -20,10 +20,18 @@ returns-clause-first c =
     let bytes = c.self.inside.bytes.now in
     let at = c.self.inside.at in
     rw (← c.self.view_is)
-    (λ b. (λ is. byte_from-first bytes at c.self.invariant.within b (sym (byte_is c) ∙ is), λ (place, first, is). byte_is c ∙ first-byte_from bytes at c.self.invariant.within b place first is))
+    (λ b. (
+      λ is. byte_from-first bytes at c.self.invariant.within b (sym (byte_is c) ∙ is),
+      λ (place, first, is). byte_is c
+          ∙ first-byte_from bytes at c.self.invariant.within b place first is,
+    ))
 
 pub returns-clause-none : goal.returns-clause-none
 returns-clause-none c =
     let bytes = c.self.inside.bytes.now in
     let at = c.self.inside.at in
-    rw (← c.self.view_is) (λ is. byte_from-space bytes at c.self.invariant.within (sym (byte_is c) ∙ is), λ space. byte_is c ∙ space-byte_from bytes at c.self.invariant.within space)
+    rw (← c.self.view_is) (
+      λ is. byte_from-space bytes at c.self.invariant.within (sym (byte_is c) ∙ is),
+      λ space. byte_is c
+          ∙ space-byte_from bytes at c.self.invariant.within space,
+    )

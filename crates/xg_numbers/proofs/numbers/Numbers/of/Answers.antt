@@ -31,7 +31,8 @@ returns-clause-opened c =
     let answer : GameWeights = c.in_ok-weights.weights in
     let sets = c.in_ok-form.ensures.recalled in
     let built : sets_or_break game.tree ≡ Ok sets.0 = ap sets_or_break (sym c.into_tree-tree.ensures) ∙ sets.1 in
-    let given : weights_of_game (tables_of game) game.tree ≡ answer = (accepted _ (weights_of_game (tables_of game) game.tree) answer c.in_ok-weights.ensures.exact).1 in
+    let given : weights_of_game (tables_of game) game.tree ≡ answer = (accepted _ (weights_of_game (tables_of game) game.tree) answer
+    c.in_ok-weights.ensures.exact).1 in
     let stands = stands_on_answers game answer sets.0 c.in_ok-weights.ensures.exact built in
     let nodes : c.len-nodes.result ≡ node_count game.tree = c.len-nodes.ensures.count ∙ ap node_count c.into_tree-tree.ensures in
     let unit = c.unit-unit.ensures.unit ∙ sym (ap (λ (w : GameWeights). w.unit) given) in

@@ -7,6 +7,8 @@ payoffs-preserved c =
     let whole = c.args.self.now.whole in
     record {
       whole = c.in_ok-payoff.ensures.whole ∙ c.payoffs.invariant.whole;
-      rest = c.payoffs.invariant.rest ∙ payoffs_next (length whole - c.payoffs.counter) (length whole - (c.payoffs.counter + 1)) c.payoffs.payoffs c.push.new.self
-          whole c.payoffs.self.whole c.payoffs.self.at c.payoff.new.self.at _ c.payoffs.invariant.whole (omega arith) (sym c.comes.ensures ∙ c.if-comes.false) c.in_ok-payoff.ensures.exact c.in_ok-push.ensures.ok;
+      rest = c.payoffs.invariant.rest ∙ payoffs_next (length whole - c.payoffs.counter) (length whole - (c.payoffs.counter + 1)) c.payoffs.payoffs
+          c.push.new.self
+          whole c.payoffs.self.whole c.payoffs.self.at c.payoff.new.self.at _ c.payoffs.invariant.whole (omega arith) (sym c.comes.ensures ∙ c.if-comes.false)
+          c.in_ok-payoff.ensures.exact c.in_ok-push.ensures.ok;
     }

@@ -5,4 +5,5 @@ use Rattle.xg_seq.proofs.RowLemmas.{place_shows}
 use Rattle.xg_seq.proofs.form.SeqForm.actions_of.Goals as goal
 
 pub returns : goal.returns
-returns c = let read = rw c.table.ensures at c.row.ensures in place_shows (player_sets c.args.self.now c.args.player) (λ h. h.actions) (c.args.set - 1) (placed_of_row c.row.result) read.place
+returns c = let read = rw c.table.ensures at c.row.ensures in place_shows (player_sets c.args.self.now c.args.player) (λ h. h.actions) (c.args.set - 1)
+    (placed_of_row c.row.result) read.place

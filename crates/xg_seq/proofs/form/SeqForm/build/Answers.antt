@@ -41,5 +41,6 @@ table_of-requires-2-clause-few_actions c =
 pub with_threads-requires : goal.with_threads-requires
 with_threads-requires c =
     subst KeepsLeaves
-    (sym (form_is c.args.tree.now c.args.weights.now c.args.sets.now c.in_ok-one.one c.in_ok-two.two c.in_ok-leaves.leaves.items c.requires.sets c.in_ok-one.ensures c.in_ok-two.ensures c.in_ok-leaves.ensures.leaves))
+    (sym (form_is c.args.tree.now c.args.weights.now c.args.sets.now c.in_ok-one.one c.in_ok-two.two c.in_ok-leaves.leaves.items c.requires.sets
+    c.in_ok-one.ensures c.in_ok-two.ensures c.in_ok-leaves.ensures.leaves))
     (keeps_leaves c.args.tree.now c.args.weights.now c.leaves_of.ensures.rules c.requires.weights c.requires.mass)

@@ -9,5 +9,6 @@ returns c =
     let kept = c.threads.ensures in
     let s = c.args.sequence in
     c.leaf_of_number.ensures
-    ∙ ap leaf_of_number (c.index.ensures ∙ get_or_default c.threads.result.now.first.items s c.index.result.now 0 (omega (arith, kept.first_count, c.requires.there)) ∙ kept.first_leaves s c.requires.there)
+    ∙ ap leaf_of_number (c.index.ensures ∙ get_or_default c.threads.result.now.first.items s c.index.result.now 0
+    (omega (arith, kept.first_count, c.requires.there)) ∙ kept.first_leaves s c.requires.there)
     ∙ read_from c.args.player s 1 c.args.self.now.leaves (omega arith)

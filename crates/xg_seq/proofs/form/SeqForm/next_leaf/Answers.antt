@@ -11,5 +11,6 @@ returns c =
     let z = c.args.z in
     let leaves = c.args.self.now.leaves in
     c.leaf_of_number.ensures
-    ∙ ap leaf_of_number (c.index.ensures ∙ get_or_default c.threads.result.now.next.items (z - 1) c.index.result.now 0 (omega (arith, kept.next_count, c.requires.from_one, c.requires.there)) ∙ kept.next_leaves z c.requires.from_one c.requires.there)
+    ∙ ap leaf_of_number (c.index.ensures ∙ get_or_default c.threads.result.now.next.items (z - 1) c.index.result.now 0
+    (omega (arith, kept.next_count, c.requires.from_one, c.requires.there)) ∙ kept.next_leaves z c.requires.from_one c.requires.there)
     ∙ read_from c.args.player (sequence_of_leaf c.args.player z leaves) (z + 1) (drop z leaves) (omega arith)

@@ -29,9 +29,13 @@ pub invariant_of-result : goal.invariant_of-result
 invariant_of-result c = record {
   leaves = c.requires;
   one =
-      subst (λ (n : ℕ). KeepsThreads One n (map leaf_of c.args.leaves.items) c.in_ok-threads_one.threads_one.first.items c.in_ok-threads_one.threads_one.next.items) c.sequence_count.ensures.count
-      (subst (λ (zs : List Leaf). KeepsThreads One c.sequence_count.result (map leaf_of zs) c.in_ok-threads_one.threads_one.first.items c.in_ok-threads_one.threads_one.next.items) c.deref.ensures.value c.in_ok-threads_one.ensures);
+      subst (λ (n : ℕ). KeepsThreads One n (map leaf_of c.args.leaves.items) c.in_ok-threads_one.threads_one.first.items
+      c.in_ok-threads_one.threads_one.next.items) c.sequence_count.ensures.count
+      (subst (λ (zs : List Leaf). KeepsThreads One c.sequence_count.result (map leaf_of zs) c.in_ok-threads_one.threads_one.first.items
+      c.in_ok-threads_one.threads_one.next.items) c.deref.ensures.value c.in_ok-threads_one.ensures);
   two =
-      subst (λ (n : ℕ). KeepsThreads Two n (map leaf_of c.args.leaves.items) c.in_ok-threads_two.threads_two.first.items c.in_ok-threads_two.threads_two.next.items) c.sequence_count-2.ensures.count
-      (subst (λ (zs : List Leaf). KeepsThreads Two c.sequence_count-2.result (map leaf_of zs) c.in_ok-threads_two.threads_two.first.items c.in_ok-threads_two.threads_two.next.items) c.deref-2.ensures.value c.in_ok-threads_two.ensures);
+      subst (λ (n : ℕ). KeepsThreads Two n (map leaf_of c.args.leaves.items) c.in_ok-threads_two.threads_two.first.items
+      c.in_ok-threads_two.threads_two.next.items) c.sequence_count-2.ensures.count
+      (subst (λ (zs : List Leaf). KeepsThreads Two c.sequence_count-2.result (map leaf_of zs) c.in_ok-threads_two.threads_two.first.items
+      c.in_ok-threads_two.threads_two.next.items) c.deref-2.ensures.value c.in_ok-threads_two.ensures);
 }

@@ -6,4 +6,10 @@ use Rattle.xg_seq.proofs.table.SetPlaces.set_count.Goals as goal
 
 pub overflow_cast-result : goal.overflow_cast-result
 overflow_cast-result c =
-    omega (arith, c.len.ensures, length-map c.self.inside.rows.items set_of_row, sets_are_few 1 (map set_of_row c.self.inside.rows.items) c.self.invariant.order, c.self.invariant.limit)
+    omega (
+      arith,
+      c.len.ensures,
+      length-map c.self.inside.rows.items set_of_row,
+      sets_are_few 1 (map set_of_row c.self.inside.rows.items) c.self.invariant.order,
+      c.self.invariant.limit,
+    )

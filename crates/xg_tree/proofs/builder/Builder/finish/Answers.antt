@@ -15,4 +15,5 @@ returns-clause-rules c =
 
 pub of-requires : goal.of-requires
 of-requires c =
-    kept_of_built c.self.inside.nodes.items c.self.inside.links.items c.self.inside.wanted c.self.inside.leaves c.self.inside.sizes c.self.invariant (ap (wanted 1) c.self.view_is ∙ c.requires)
+    kept_of_built c.self.inside.nodes.items c.self.inside.links.items c.self.inside.wanted c.self.inside.leaves c.self.inside.sizes c.self.invariant
+    (ap (wanted 1) c.self.view_is ∙ c.requires)

@@ -5,9 +5,11 @@ use Rattle.xg_tree.proofs.tree.Tree.first_child.Goals as goal
 
 pub links_at-requires : goal.links_at-requires
 links_at-requires c =
-    links_there c.self.inside.nodes.items c.self.inside.links.items c.deref.result.now c.self.inside.leaves c.args.self.now c.args.k c.self.view_is c.self.invariant c.deref.ensures.value c.requires.there
+    links_there c.self.inside.nodes.items c.self.inside.links.items c.deref.result.now c.self.inside.leaves c.args.self.now c.args.k c.self.view_is
+    c.self.invariant c.deref.ensures.value c.requires.there
 
 pub returns : goal.returns
 returns c =
     c.numbered.ensures ∙ ap (λ l. numbered l.first_child) (c.links_at.ensures ∙ ap (λ l. links_at l c.args.k) c.deref.ensures.value)
-    ∙ first_child_seen c.self.inside.nodes.items c.self.inside.links.items c.self.inside.leaves c.args.self.now c.args.k c.self.view_is c.self.invariant c.requires.from_one
+    ∙ first_child_seen c.self.inside.nodes.items c.self.inside.links.items c.self.inside.leaves c.args.self.now c.args.k c.self.view_is c.self.invariant
+    c.requires.from_one

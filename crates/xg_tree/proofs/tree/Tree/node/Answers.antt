@@ -6,7 +6,8 @@ use Rattle.xg_tree.proofs.tree.Tree.node.Goals as goal
 
 pub index-requires : goal.index-requires
 index-requires c =
-    let same : node_count c.args.self.now ≡ length c.self.inside.nodes.items = ap length (prefix_seen c.self.inside.nodes.items c.args.self.now c.self.view_is) in
+    let same : node_count c.args.self.now ≡ length c.self.inside.nodes.items = ap length
+    (prefix_seen c.self.inside.nodes.items c.args.self.now c.self.view_is) in
     let there : c.args.k ≤ node_count c.args.self.now = c.requires.there in
     let from_one : 1 ≤ c.args.k = c.requires.from_one in
     let long : vec_len c.self.inside.nodes ≡ length c.self.inside.nodes.items = c.self.inside.nodes.ok.0 in
@@ -14,7 +15,8 @@ index-requires c =
 
 pub returns : goal.returns
 returns c =
-    let same : node_count c.args.self.now ≡ length c.self.inside.nodes.items = ap length (prefix_seen c.self.inside.nodes.items c.args.self.now c.self.view_is) in
+    let same : node_count c.args.self.now ≡ length c.self.inside.nodes.items = ap length
+    (prefix_seen c.self.inside.nodes.items c.args.self.now c.self.view_is) in
     let there : c.args.k ≤ node_count c.args.self.now = c.requires.there in
     let from_one : 1 ≤ c.args.k = c.requires.from_one in
     node_seen c.self.inside.nodes.items c.args.self.now (c.args.k - 1) c.index.result.now c.self.view_is (omega arith) c.index.ensures

@@ -11,10 +11,16 @@ none = record { kind = Chance; set = 0; outcome = 0; children = 0 }
 
 pub visit-requires-clause-there : goal.visit-requires-clause-there
 visit-requires-clause-there g c =
-    omega (arith, ap length c.deref.ensures.value, ap length c.deref-node-items.ensures.value, links_as_nodes c.self.inside.nodes.items c.self.inside.links.items c.self.inside.leaves c.self.invariant)
+    omega (
+      arith,
+      ap length c.deref.ensures.value,
+      ap length c.deref-node-items.ensures.value,
+      links_as_nodes c.self.inside.nodes.items c.self.inside.links.items c.self.inside.leaves c.self.invariant,
+    )
 
 pub visit-requires-clause-ordered : goal.visit-requires-clause-ordered
-visit-requires-clause-ordered g c = subst ComeAfterParents (sym c.deref.ensures.value) (kept_in_order c.self.inside.nodes.items c.self.inside.links.items c.self.inside.leaves c.self.invariant)
+visit-requires-clause-ordered g c = subst ComeAfterParents (sym c.deref.ensures.value)
+    (kept_in_order c.self.inside.nodes.items c.self.inside.links.items c.self.inside.leaves c.self.invariant)
 
 pub visit-requires-clause-accepts : goal.visit-requires-clause-accepts
 visit-requires-clause-accepts g c =
@@ -36,4 +42,5 @@ loop-at-preserved g c =
 pub returns : goal.returns
 returns g c =
     walk_over g.V.Visitor.may_enter g.V.Visitor.enters g.V.Visitor.may_leave g.V.Visitor.leaves (events c.args.self.now) c.args.visitor.now
-    c.self.inside.nodes.items c.self.inside.links.items c.loop-at.at c.loop-at.visitor (omega (arith, ap length c.deref-node-items.ensures.value)) c.loop-at.invariant
+    c.self.inside.nodes.items c.self.inside.links.items c.loop-at.at c.loop-at.visitor (omega (arith, ap length c.deref-node-items.ensures.value))
+    c.loop-at.invariant
