@@ -49,6 +49,12 @@ module _ (player : Player) (rows : List ℤ) (sets : List InformationSet) (count
       let same : amount_of worths ≡ own_amount player rows = λ i s. each s i in
       subst (λ sums. size_of_sums sums sets ≤ 2 ^ 82) (sym same) own_small
 
+  -- also by the amounts of worths that are their own
+  pub own_worths_small : (worths : List ℤ) → ((s : ℕ) → amount_of worths s ≡ own_amount player rows s)
+      → size_of_sums (amount_of (map (λ worth. worth) worths)) sets ≤ 2 ^ 82
+  own_worths_small worths each =
+      subst (λ ws. size_of_sums (amount_of ws) sets ≤ 2 ^ 82) (sym (same_amounts worths)) (worths_small worths each)
+
   -- and give the same regrets
   pub own_regrets : (worths : List ℤ) (play : List ℕ) (before after : List ℤ)
       → ((s : ℕ) → amount_of worths s ≡ own_amount player rows s)
@@ -57,6 +63,14 @@ module _ (player : Player) (rows : List ℤ) (sets : List InformationSet) (count
   own_regrets worths play before after each is =
       let same : amount_of worths ≡ own_amount player rows = λ i s. each s i in
       is ∙ ap (λ sums. regrets_after sums play sets before) same
+
+  pub own_worths_regrets : (worths : List ℤ) (play : List ℕ) (before after : List ℤ)
+      → ((s : ℕ) → amount_of worths s ≡ own_amount player rows s)
+      → map (λ regret. regret) after ≡ regrets_after (amount_of (map (λ worth. worth) worths)) play sets (map (λ regret. regret) before)
+      → after ≡ regrets_after (own_amount player rows) play sets before
+  own_worths_regrets worths play before after each is =
+      own_regrets worths play before after each
+      (sym (same_amounts after) ∙ is ∙ (λ i. regrets_after (amount_of (same_amounts worths i)) play sets (same_amounts before i)))
 
   -- after one round more there is room for all regrets, and none is larger than 2 ^ 82 for each round
   pub keeps_regrets : (play : List ℕ) (before : List ℤ) (most : Option ℕ) (small_regrets wide worths small_worths : List ℤ)

@@ -1,5 +1,5 @@
 -- A set's place among the sets of its player.
-use Rattle.std.proofs.Common.{◌≡◌, ℕ, zero, suc, ◌+◌, ◌<◌, ◌≤◌, List, [], ◌∷◌, length, get_or, slice_get, slice_index, Some, take, ap, sym, subst, ◌∙◌, arith}
+use Rattle.std.proofs.Common.{◌≡◌, ℕ, zero, suc, ◌+◌, ◌<◌, ◌≤◌, List, [], ◌∷◌, length, get_or, slice_get, slice_index, Some, take, map, ap, sym, subst, ◌∙◌, arith}
 use Rattle.std.proofs.lemmas.List.{take_more}
 use Rattle.std.proofs.lemmas.List.Elements.{All-get_or}
 use Rattle.std.proofs.lemmas.Option.{get_or_from_slice_get}
@@ -9,7 +9,9 @@ use Rattle.def_plan.specs.Form.{InformationSet, PlacedSet, placed, sequences_of,
 use Rattle.def_plan.proofs.BadSets.{length-placed}
 use Rattle.def_plan.proofs.Places.{numbered}
 use Rattle.def_round.specs.Play.{GivesAllUnits, units}
-use Rattle.xg_plan.proofs.PlaceLemmas.{no_place, no_information_set}
+use Rattle.xg_seq.specs.Table.{placed_of_row}
+use Rattle.xg_seq.specs.declared.table.SetPlace.{SetPlace}
+use Rattle.xg_plan.proofs.PlaceLemmas.{all_places, no_place, no_information_set}
 
 -- the first sequence of the set at place k
 abbrev pub start_of : List InformationSet → ℕ → ℕ
@@ -18,7 +20,11 @@ start_of sets k = sequence_count (take k sets)
 start_more : (sets : List InformationSet) (m : ℕ) → m < length sets
     → start_of sets (m + 1) ≡ start_of sets m + (get_or sets m no_information_set).actions
 start_more sets m below =
-    omega (arith, ap (nat_sum_over (λ s. s.actions)) (take_more sets m no_information_set below), nat_sum_over-append (λ s. s.actions) (take m sets) (get_or sets m no_information_set ∷ []))
+    omega (
+      arith,
+      ap (nat_sum_over (λ s. s.actions)) (take_more sets m no_information_set below),
+      nat_sum_over-append (λ s. s.actions) (take m sets) (get_or sets m no_information_set ∷ []),
+    )
 
 front : (sets : List InformationSet) (m : ℕ)
     → nat_sum_over (λ s. s.actions) (take m sets) ≤ nat_sum_over (λ s. s.actions) sets
@@ -62,7 +68,15 @@ is_at sets m h order below read =
       some = in_order.0;
     }
 
+-- and so is what is read at place m of a form's places
+pub row_at : (sets : List InformationSet) (rows : List SetPlace) (m : ℕ) (row : SetPlace) → AreInOrder sets → m < length rows
+    → map placed_of_row rows ≡ placed sets → slice_get (map placed_of_row rows) m ≡ Some (placed_of_row row)
+    → IsAt sets m (placed_of_row row)
+row_at sets rows m row order below are read =
+    is_at sets m (placed_of_row row) order (omega (arith, below, all_places sets rows are)) (ap (λ hs. slice_get hs m) (sym are) ∙ read)
+
 -- at the set a play gives out all units
 pub units_at : (play : List ℕ) (sets : List InformationSet) (m : ℕ) (h : PlacedSet) → IsAt sets m h
     → GivesAllUnits play sets → nat_sum_over (λ s. slice_index play s) (sequences_of h) ≡ units
-units_at play sets m h at all_units = subst (λ (p : PlacedSet). nat_sum_over (λ s. slice_index play s) (sequences_of p) ≡ units) at.is (all_units m no_place at.there)
+units_at play sets m h at all_units =
+    subst (λ (p : PlacedSet). nat_sum_over (λ s. slice_index play s) (sequences_of p) ≡ units) at.is (all_units m no_place at.there)

@@ -58,7 +58,8 @@ first_worths w play sets k rows all count room = record {
   count = count;
   each = λ s low.
       let none : drop k (placed sets) ≡ [] = drop_all k (placed sets) (omega (arith, all, length-placed 1 sets)) in
-      let is : later_worth (amount_of rows) play sets k s ≡ amount_of rows s = ap (λ hs. worth (amount_of rows) hs (values_from (amount_of rows) play hs) s) none ∙ +ℤ-zero (amount_of rows s) in
+      let is : later_worth (amount_of rows) play sets k s ≡ amount_of rows s =
+      ap (λ hs. worth (amount_of rows) hs (values_from (amount_of rows) play hs) s) none ∙ +ℤ-zero (amount_of rows s) in
       let one_of = at_most_sum (λ s. unsigned_abs (amount_of rows s)) 0 (sequence_count sets) s (omega arith) (omega arith) in
       let light : unsigned_abs (amount_of rows s) ≤ size_of_sums (amount_of rows) sets = one_of in
       sym (int_wrap_fits w (amount_of rows s) (room (amount_of rows s) light)) ∙ ap (int_wrap w) (sym is);
@@ -78,25 +79,53 @@ set_step w sums play sets old worths m h order all_units small room at kept =
     let f : SetFacts sums play sets old m h value = set_facts sums play sets old m h order all_units at in
     let worth_is : (s : ℕ) → h.first ≤ s → s < h.first + h.actions → amount_of worths s ≡ full_worth sums play sets s =
     λ s from to.
-    kept.each s (omega (arith, at.inside)) ∙ ap (int_wrap w) (sym (f.as_later s from to)) ∙ int_wrap_fits w (full_worth sums play sets s) (room (full_worth sums play sets s) (f.worth_small s from to)) in
-    let value_is : set_value play (amount_of worths) h ≡ value = set_value_same play (amount_of worths) (full_worth sums play sets) h worth_is ∙ sym f.is_value in
-    let same_products = nat_sum_over-same (λ s. unsigned_abs (pos (slice_index play s) *ℤ amount_of worths s)) (λ s. unsigned_abs (pos (slice_index play s) *ℤ full_worth sums play sets s)) (range_with_len h.first h.actions)
-    (All-range (λ s. unsigned_abs (pos (slice_index play s) *ℤ amount_of worths s) ≡ unsigned_abs (pos (slice_index play s) *ℤ full_worth sums play sets s)) h.first h.actions (λ s from to. ap (λ x. unsigned_abs (pos (slice_index play s) *ℤ x)) (worth_is s from to))) in
+    kept.each s (omega (arith, at.inside)) ∙ ap (int_wrap w) (sym (f.as_later s from to))
+    ∙ int_wrap_fits w (full_worth sums play sets s) (room (full_worth sums play sets s) (f.worth_small s from to)) in
+    let value_is : set_value play (amount_of worths) h ≡ value =
+    set_value_same play (amount_of worths) (full_worth sums play sets) h worth_is ∙ sym f.is_value in
+    let same_products = nat_sum_over-same (λ s. unsigned_abs (pos (slice_index play s) *ℤ amount_of worths s))
+    (λ s. unsigned_abs (pos (slice_index play s) *ℤ full_worth sums play sets s)) (range_with_len h.first h.actions)
+    (All-range
+    (λ s. unsigned_abs (pos (slice_index play s) *ℤ amount_of worths s) ≡ unsigned_abs (pos (slice_index play s) *ℤ full_worth sums play sets s))
+    h.first h.actions
+    (λ s from to. ap (λ x. unsigned_abs (pos (slice_index play s) *ℤ x)) (worth_is s from to))) in
     record {
       products = omega (arith, same_products, f.products, mul-le-mul_left 65536 small);
       fits = subst (FitsSigned w) (sym value_is) (room value f.value_small);
-      growth = λ s from to. omega (arith, ap (λ x. unsigned_abs (x -ℤ set_value play (amount_of worths) h)) (worth_is s from to), ap (λ v. unsigned_abs (full_worth sums play sets s -ℤ v)) value_is, f.growth s from to);
-      grows = λ s from to. omega (arith, ap (λ x. unsigned_abs (x -ℤ set_value play (amount_of worths) h)) (worth_is s from to), ap (λ v. unsigned_abs (full_worth sums play sets s -ℤ v)) value_is, f.growth s from to);
-      regret = λ s from to. f.regret s from to ∙ ap (λ x. regret_of old s +ℤ (x -ℤ value)) (sym (worth_is s from to)) ∙ ap (λ v. regret_of old s +ℤ (amount_of worths s -ℤ v)) (sym value_is);
+      growth = λ s from to. omega (
+        arith,
+        ap (λ x. unsigned_abs (x -ℤ set_value play (amount_of worths) h)) (worth_is s from to),
+        ap (λ v. unsigned_abs (full_worth sums play sets s -ℤ v)) value_is,
+        f.growth s from to,
+      );
+      grows = λ s from to. omega (
+        arith,
+        ap (λ x. unsigned_abs (x -ℤ set_value play (amount_of worths) h)) (worth_is s from to),
+        ap (λ v. unsigned_abs (full_worth sums play sets s -ℤ v)) value_is,
+        f.growth s from to,
+      );
+      regret = λ s from to. f.regret s from to ∙ ap (λ x. regret_of old s +ℤ (x -ℤ value)) (sym (worth_is s from to))
+          ∙ ap (λ v. regret_of old s +ℤ (amount_of worths s -ℤ v)) (sym value_is);
       before =
           ap (λ x. int_wrap w (x +ℤ set_value play (amount_of worths) h)) (kept.each h.before (omega (arith, at.inside, at.earlier)))
           ∙ int_wrap-add_left w (later_worth sums play sets (m + 1) h.before) (set_value play (amount_of worths) h)
           ∙ ap (λ v. int_wrap w (later_worth sums play sets (m + 1) h.before +ℤ v)) value_is
-          ∙ ap (λ t. int_wrap w (cond t (later_worth sums play sets (m + 1) h.before +ℤ value) (later_worth sums play sets (m + 1) h.before))) (sym (eq-eqb h.before h.before refl))
+          ∙ ap (λ t. int_wrap w (cond t (later_worth sums play sets (m + 1) h.before +ℤ value)
+          (later_worth sums play sets (m + 1) h.before))) (sym (eq-eqb h.before h.before refl))
           ∙ ap (int_wrap w) (sym (f.step h.before));
       others = λ s low apart.
           let apart' : h.before ≢ s = λ e. apart (sym e) in
           kept.each s low
-          ∙ ap (λ t. int_wrap w (cond t (later_worth sums play sets (m + 1) s +ℤ value) (later_worth sums play sets (m + 1) s))) (sym (test_no h.before s apart'))
+          ∙ ap (λ t. int_wrap w (cond t (later_worth sums play sets (m + 1) s +ℤ value)
+          (later_worth sums play sets (m + 1) s))) (sym (test_no h.before s apart'))
           ∙ ap (int_wrap w) (sym (f.step s));
     }
+
+-- the same, where the sets behind it are those from place k on
+pub step_before : (w : Width) (sums : ℕ → ℤ) (play : List ℕ) (sets : List InformationSet) (old worths : List ℤ) (k m : ℕ)
+    (h : PlacedSet)
+    → k ≡ m + 1 → AreInOrder sets → GivesAllUnits play sets → size_of_sums sums sets ≤ 2 ^ 82
+    → HasRoomFor w sums sets → IsAt sets m h
+    → KeepsWorths w sums play sets k worths → SetStep w sums play sets old m h worths
+step_before w sums play sets old worths k m h behind order all_units small room at kept =
+    set_step w sums play sets old worths m h order all_units small room at (subst (λ n. KeepsWorths w sums play sets n worths) behind kept)

@@ -50,7 +50,6 @@ returns-clause-regrets g c =
     let player = c.args.player in
     let rows : List ℤ = (map g.A.Worth.amount c.args.rows.now) in
     let sets : List InformationSet = player_sets c.args.form.now player in
-    let order = c.facts.ensures.order c.args.player in
     let before : List ℤ = c.args.regrets.now.of_sequences in
     let most : Option ℕ = c.regrets.inside.most_small in
     let before_is : kept_regrets most c.deref_mut-3.result.now c.deref_mut-4.result.now ≡ before =

@@ -1,13 +1,13 @@
-use Rattle.std.proofs.Common.{◌≡◌, ℕ, ◌+◌, ◌-◌, ◌<◌, ◌≤◌, FitsSigned, List, length, slice_get, ℤ, pos, ◌+ℤ◌, ◌-ℤ◌, arith, refl, sym, subst, ap, map, ◌∙◌, ⊎_elim}
+use Rattle.std.proofs.Common.{◌≡◌, ℕ, ◌+◌, ◌-◌, ◌≤◌, FitsSigned, List, length, ℤ, pos, ◌+ℤ◌, ◌-ℤ◌, arith, refl, sym, subst, ap, map, ◌∙◌, ⊎_elim}
 use Rattle.std.proofs.lemmas.Bool.{cases_eq, cases_lt}
 use Rattle.std.proofs.lemmas.List.{ext_get_or, get_or_past, length-map, take_all}
 use Rattle.def_plan.specs.Form.{InformationSet, PlacedSet, player_sets, sequence_count}
 use Rattle.def_round.specs.Play.{regret_of}
 use Rattle.def_round.specs.Round.{regrets_after, set_value}
 use Rattle.xg_seq.specs.Table.{placed_of_row}
-use Rattle.xg_closer.proofs.WorthsSetBySet.{KeepsWorths, SetStep, first_worths, set_step}
+use Rattle.xg_closer.proofs.WorthsSetBySet.{first_worths, step_before}
 use Rattle.xg_plan.proofs.PlaceLemmas.{all_places}
-use Rattle.xg_closer.proofs.Sets.{IsAt, is_at, start_of, units_at}
+use Rattle.xg_closer.proofs.Sets.{row_at, start_of, units_at}
 use Rattle.xg_closer.proofs.SetValues.{regrets_count}
 use Rattle.xg_closer.proofs.closing.close_sets.Goals as goal
 use Rattle.def_plan.specs.FormRows.{amount_of}
@@ -16,184 +16,136 @@ pub loop-set-init : goal.loop-set-init
 loop-set-init g c =
     let sets : List InformationSet = player_sets c.args.form.now c.args.player in
     let sums : ℕ → ℤ = amount_of (map g.W.Worth.amount c.args.worths.now) in
-    let count : length sets ≤ (length c.places-places.result.now) = omega (arith, all_places sets c.places-places.result.now c.places-places.ensures) in
-    let last : start_of sets (length c.places-places.result.now) ≡ sequence_count sets = ap sequence_count (take_all (length c.places-places.result.now) sets count) in (
-      first_worths g.W.Worth.width c.args.play.now sets (length c.places-places.result.now) (map g.W.Worth.amount c.args.worths.now) count (length-map c.args.worths.now g.W.Worth.amount ∙ c.requires.as_worths) c.requires.fits,
+    let count : length sets ≤ length c.places-places.result.now = omega (arith, all_places sets c.places-places.result.now c.places-places.ensures) in
+    let last : start_of sets (length c.places-places.result.now) ≡ sequence_count sets =
+    ap sequence_count (take_all (length c.places-places.result.now) sets count) in (
+      first_worths g.W.Worth.width c.args.play.now sets (length c.places-places.result.now) (map g.W.Worth.amount c.args.worths.now) count
+          (length-map c.args.worths.now g.W.Worth.amount ∙ c.requires.as_worths) c.requires.fits,
       refl,
       λ s low. refl,
-      λ s from. get_or_past (map g.R.Worth.amount c.args.regrets.now) s (pos 0) (omega (arith, last, length-map c.args.regrets.now g.R.Worth.amount, c.requires.as_regrets))
-          ∙ sym (get_or_past (regrets_after sums c.args.play.now sets (map g.R.Worth.amount c.args.regrets.now)) s (pos 0) (omega (arith, last, regrets_count sums c.args.play.now sets (map g.R.Worth.amount c.args.regrets.now) (c.facts.ensures.order c.args.player)))),
+      λ s from.
+          get_or_past (map g.R.Worth.amount c.args.regrets.now) s (pos 0) (omega
+          (arith, last, length-map c.args.regrets.now g.R.Worth.amount, c.requires.as_regrets))
+          ∙ sym (get_or_past (regrets_after sums c.args.play.now sets (map g.R.Worth.amount c.args.regrets.now)) s (pos 0)
+          (omega (arith, last, regrets_count sums c.args.play.now sets (map g.R.Worth.amount c.args.regrets.now) (c.facts.ensures.order c.args.player)))),
     )
 
 pub close_set-requires-clause-from_one : goal.close_set-requires-clause-from_one
 close_set-requires-clause-from_one g c =
-    let sets : List InformationSet = player_sets c.args.form.now c.args.player in
-    let sums : ℕ → ℤ = amount_of (map g.W.Worth.amount c.args.worths.now) in
-    let m : ℕ = c.loop-set.set - 1 in
-    let set_is : c.loop-set.set ≡ m + 1 = omega arith in
-    let h : PlacedSet = placed_of_row c.place_at-place.result in
-    let below : m < length sets = omega (arith, all_places sets c.places-places.result.now c.places-places.ensures) in
-    let at : IsAt sets m h = is_at sets m h (c.facts.ensures.order c.args.player) below (ap (λ hs. slice_get hs m) (sym c.places-places.ensures) ∙ c.place_at-place.ensures) in
-    let kept : KeepsWorths g.W.Worth.width sums c.args.play.now sets (m + 1) (map g.W.Worth.amount c.loop-set.worths) = subst (λ k. KeepsWorths g.W.Worth.width sums c.args.play.now sets k (map g.W.Worth.amount c.loop-set.worths)) set_is c.loop-set.invariant.0 in
+    let at = row_at (player_sets c.args.form.now c.args.player) c.places-places.result.now (c.loop-set.set - 1) c.place_at-place.result
+    (c.facts.ensures.order c.args.player) (omega arith) c.places-places.ensures c.place_at-place.ensures in
     omega (arith, at.first)
 
 pub close_set-requires-clause-inside : goal.close_set-requires-clause-inside
 close_set-requires-clause-inside g c =
-    let sets : List InformationSet = player_sets c.args.form.now c.args.player in
-    let sums : ℕ → ℤ = amount_of (map g.W.Worth.amount c.args.worths.now) in
-    let m : ℕ = c.loop-set.set - 1 in
-    let set_is : c.loop-set.set ≡ m + 1 = omega arith in
-    let h : PlacedSet = placed_of_row c.place_at-place.result in
-    let below : m < length sets = omega (arith, all_places sets c.places-places.result.now c.places-places.ensures) in
-    let at : IsAt sets m h = is_at sets m h (c.facts.ensures.order c.args.player) below (ap (λ hs. slice_get hs m) (sym c.places-places.ensures) ∙ c.place_at-place.ensures) in
-    let kept : KeepsWorths g.W.Worth.width sums c.args.play.now sets (m + 1) (map g.W.Worth.amount c.loop-set.worths) = subst (λ k. KeepsWorths g.W.Worth.width sums c.args.play.now sets k (map g.W.Worth.amount c.loop-set.worths)) set_is c.loop-set.invariant.0 in
-    omega (arith, at.inside, kept.count, length-map c.loop-set.worths g.W.Worth.amount)
+    let at = row_at (player_sets c.args.form.now c.args.player) c.places-places.result.now (c.loop-set.set - 1) c.place_at-place.result
+    (c.facts.ensures.order c.args.player) (omega arith) c.places-places.ensures c.place_at-place.ensures in
+    omega (arith, at.inside, c.loop-set.invariant.0.count, length-map c.loop-set.worths g.W.Worth.amount)
 
 pub close_set-requires-clause-earlier : goal.close_set-requires-clause-earlier
 close_set-requires-clause-earlier g c =
-    let sets : List InformationSet = player_sets c.args.form.now c.args.player in
-    let sums : ℕ → ℤ = amount_of (map g.W.Worth.amount c.args.worths.now) in
-    let m : ℕ = c.loop-set.set - 1 in
-    let set_is : c.loop-set.set ≡ m + 1 = omega arith in
-    let h : PlacedSet = placed_of_row c.place_at-place.result in
-    let below : m < length sets = omega (arith, all_places sets c.places-places.result.now c.places-places.ensures) in
-    let at : IsAt sets m h = is_at sets m h (c.facts.ensures.order c.args.player) below (ap (λ hs. slice_get hs m) (sym c.places-places.ensures) ∙ c.place_at-place.ensures) in
-    let kept : KeepsWorths g.W.Worth.width sums c.args.play.now sets (m + 1) (map g.W.Worth.amount c.loop-set.worths) = subst (λ k. KeepsWorths g.W.Worth.width sums c.args.play.now sets k (map g.W.Worth.amount c.loop-set.worths)) set_is c.loop-set.invariant.0 in
+    let at = row_at (player_sets c.args.form.now c.args.player) c.places-places.result.now (c.loop-set.set - 1) c.place_at-place.result
+    (c.facts.ensures.order c.args.player) (omega arith) c.places-places.ensures c.place_at-place.ensures in
     at.earlier
 
 pub close_set-requires-clause-as_play : goal.close_set-requires-clause-as_play
 close_set-requires-clause-as_play g c =
-    let sets : List InformationSet = player_sets c.args.form.now c.args.player in
-    let sums : ℕ → ℤ = amount_of (map g.W.Worth.amount c.args.worths.now) in
-    let m : ℕ = c.loop-set.set - 1 in
-    let set_is : c.loop-set.set ≡ m + 1 = omega arith in
-    let h : PlacedSet = placed_of_row c.place_at-place.result in
-    let below : m < length sets = omega (arith, all_places sets c.places-places.result.now c.places-places.ensures) in
-    let at : IsAt sets m h = is_at sets m h (c.facts.ensures.order c.args.player) below (ap (λ hs. slice_get hs m) (sym c.places-places.ensures) ∙ c.place_at-place.ensures) in
-    let kept : KeepsWorths g.W.Worth.width sums c.args.play.now sets (m + 1) (map g.W.Worth.amount c.loop-set.worths) = subst (λ k. KeepsWorths g.W.Worth.width sums c.args.play.now sets k (map g.W.Worth.amount c.loop-set.worths)) set_is c.loop-set.invariant.0 in
-    omega (arith, kept.count, length-map c.loop-set.worths g.W.Worth.amount, c.requires.as_play)
+    omega (arith, c.loop-set.invariant.0.count, length-map c.loop-set.worths g.W.Worth.amount, c.requires.as_play)
 
 pub close_set-requires-clause-limit : goal.close_set-requires-clause-limit
 close_set-requires-clause-limit g c =
-    let sets : List InformationSet = player_sets c.args.form.now c.args.player in
-    let sums : ℕ → ℤ = amount_of (map g.W.Worth.amount c.args.worths.now) in
-    let m : ℕ = c.loop-set.set - 1 in
-    let set_is : c.loop-set.set ≡ m + 1 = omega arith in
-    let h : PlacedSet = placed_of_row c.place_at-place.result in
-    let below : m < length sets = omega (arith, all_places sets c.places-places.result.now c.places-places.ensures) in
-    let at : IsAt sets m h = is_at sets m h (c.facts.ensures.order c.args.player) below (ap (λ hs. slice_get hs m) (sym c.places-places.ensures) ∙ c.place_at-place.ensures) in
-    let kept : KeepsWorths g.W.Worth.width sums c.args.play.now sets (m + 1) (map g.W.Worth.amount c.loop-set.worths) = subst (λ k. KeepsWorths g.W.Worth.width sums c.args.play.now sets k (map g.W.Worth.amount c.loop-set.worths)) set_is c.loop-set.invariant.0 in
-    omega (arith, kept.count, length-map c.loop-set.worths g.W.Worth.amount, c.facts.ensures.limit c.args.player)
+    omega (arith, c.loop-set.invariant.0.count, length-map c.loop-set.worths g.W.Worth.amount, c.facts.ensures.limit c.args.player)
 
 pub close_set-requires-clause-as_regrets : goal.close_set-requires-clause-as_regrets
 close_set-requires-clause-as_regrets g c =
-    let sets : List InformationSet = player_sets c.args.form.now c.args.player in
-    let sums : ℕ → ℤ = amount_of (map g.W.Worth.amount c.args.worths.now) in
-    let m : ℕ = c.loop-set.set - 1 in
-    let set_is : c.loop-set.set ≡ m + 1 = omega arith in
-    let h : PlacedSet = placed_of_row c.place_at-place.result in
-    let below : m < length sets = omega (arith, all_places sets c.places-places.result.now c.places-places.ensures) in
-    let at : IsAt sets m h = is_at sets m h (c.facts.ensures.order c.args.player) below (ap (λ hs. slice_get hs m) (sym c.places-places.ensures) ∙ c.place_at-place.ensures) in
-    let kept : KeepsWorths g.W.Worth.width sums c.args.play.now sets (m + 1) (map g.W.Worth.amount c.loop-set.worths) = subst (λ k. KeepsWorths g.W.Worth.width sums c.args.play.now sets k (map g.W.Worth.amount c.loop-set.worths)) set_is c.loop-set.invariant.0 in
-    omega (arith, kept.count, length-map c.loop-set.worths g.W.Worth.amount, c.loop-set.invariant.1, c.requires.as_regrets)
+    omega (arith, c.loop-set.invariant.0.count, length-map c.loop-set.worths g.W.Worth.amount, c.loop-set.invariant.1, c.requires.as_regrets)
 
 pub close_set-requires-clause-all_units : goal.close_set-requires-clause-all_units
 close_set-requires-clause-all_units g c =
-    let sets : List InformationSet = player_sets c.args.form.now c.args.player in
-    let m : ℕ = c.loop-set.set - 1 in
     let h : PlacedSet = placed_of_row c.place_at-place.result in
-    let below : m < length sets = omega (arith, all_places sets c.places-places.result.now c.places-places.ensures) in
-    let at : IsAt sets m h = is_at sets m h (c.facts.ensures.order c.args.player) below (ap (λ hs. slice_get hs m) (sym c.places-places.ensures) ∙ c.place_at-place.ensures) in
-    units_at c.args.play.now sets m h at c.requires.all_units
+    let at = row_at (player_sets c.args.form.now c.args.player) c.places-places.result.now (c.loop-set.set - 1) c.place_at-place.result
+    (c.facts.ensures.order c.args.player) (omega arith) c.places-places.ensures c.place_at-place.ensures in
+    units_at c.args.play.now (player_sets c.args.form.now c.args.player) (c.loop-set.set - 1) h at c.requires.all_units
 
 pub close_set-requires-clause-products : goal.close_set-requires-clause-products
 close_set-requires-clause-products g c =
-    let sets : List InformationSet = player_sets c.args.form.now c.args.player in
-    let sums : ℕ → ℤ = amount_of (map g.W.Worth.amount c.args.worths.now) in
-    let m : ℕ = c.loop-set.set - 1 in
-    let set_is : c.loop-set.set ≡ m + 1 = omega arith in
-    let h : PlacedSet = placed_of_row c.place_at-place.result in
-    let below : m < length sets = omega (arith, all_places sets c.places-places.result.now c.places-places.ensures) in
-    let at : IsAt sets m h = is_at sets m h (c.facts.ensures.order c.args.player) below (ap (λ hs. slice_get hs m) (sym c.places-places.ensures) ∙ c.place_at-place.ensures) in
-    let kept : KeepsWorths g.W.Worth.width sums c.args.play.now sets (m + 1) (map g.W.Worth.amount c.loop-set.worths) = subst (λ k. KeepsWorths g.W.Worth.width sums c.args.play.now sets k (map g.W.Worth.amount c.loop-set.worths)) set_is c.loop-set.invariant.0 in
-    let step : SetStep g.W.Worth.width sums c.args.play.now sets (map g.R.Worth.amount c.args.regrets.now) m h (map g.W.Worth.amount c.loop-set.worths) =
-    set_step g.W.Worth.width sums c.args.play.now sets (map g.R.Worth.amount c.args.regrets.now) (map g.W.Worth.amount c.loop-set.worths) m h (c.facts.ensures.order c.args.player) c.requires.all_units c.requires.small c.requires.fits at kept in
+    let at = row_at (player_sets c.args.form.now c.args.player) c.places-places.result.now (c.loop-set.set - 1) c.place_at-place.result
+    (c.facts.ensures.order c.args.player) (omega arith) c.places-places.ensures c.place_at-place.ensures in
+    let worths : List ℤ = map g.W.Worth.amount c.loop-set.worths in
+    let regrets : List ℤ = map g.R.Worth.amount c.args.regrets.now in
+    let step = step_before g.W.Worth.width (amount_of (map g.W.Worth.amount c.args.worths.now)) c.args.play.now
+    (player_sets c.args.form.now c.args.player) regrets worths c.loop-set.set (c.loop-set.set - 1) (placed_of_row c.place_at-place.result)
+    (omega arith) (c.facts.ensures.order c.args.player) c.requires.all_units c.requires.small c.requires.fits at c.loop-set.invariant.0 in
     step.products
 
 pub close_set-requires-clause-fits : goal.close_set-requires-clause-fits
 close_set-requires-clause-fits g c =
-    let sets : List InformationSet = player_sets c.args.form.now c.args.player in
-    let sums : ℕ → ℤ = amount_of (map g.W.Worth.amount c.args.worths.now) in
-    let m : ℕ = c.loop-set.set - 1 in
-    let set_is : c.loop-set.set ≡ m + 1 = omega arith in
-    let h : PlacedSet = placed_of_row c.place_at-place.result in
-    let below : m < length sets = omega (arith, all_places sets c.places-places.result.now c.places-places.ensures) in
-    let at : IsAt sets m h = is_at sets m h (c.facts.ensures.order c.args.player) below (ap (λ hs. slice_get hs m) (sym c.places-places.ensures) ∙ c.place_at-place.ensures) in
-    let kept : KeepsWorths g.W.Worth.width sums c.args.play.now sets (m + 1) (map g.W.Worth.amount c.loop-set.worths) = subst (λ k. KeepsWorths g.W.Worth.width sums c.args.play.now sets k (map g.W.Worth.amount c.loop-set.worths)) set_is c.loop-set.invariant.0 in
-    let step : SetStep g.W.Worth.width sums c.args.play.now sets (map g.R.Worth.amount c.args.regrets.now) m h (map g.W.Worth.amount c.loop-set.worths) =
-    set_step g.W.Worth.width sums c.args.play.now sets (map g.R.Worth.amount c.args.regrets.now) (map g.W.Worth.amount c.loop-set.worths) m h (c.facts.ensures.order c.args.player) c.requires.all_units c.requires.small c.requires.fits at kept in
+    let at = row_at (player_sets c.args.form.now c.args.player) c.places-places.result.now (c.loop-set.set - 1) c.place_at-place.result
+    (c.facts.ensures.order c.args.player) (omega arith) c.places-places.ensures c.place_at-place.ensures in
+    let worths : List ℤ = map g.W.Worth.amount c.loop-set.worths in
+    let regrets : List ℤ = map g.R.Worth.amount c.args.regrets.now in
+    let step = step_before g.W.Worth.width (amount_of (map g.W.Worth.amount c.args.worths.now)) c.args.play.now
+    (player_sets c.args.form.now c.args.player) regrets worths c.loop-set.set (c.loop-set.set - 1) (placed_of_row c.place_at-place.result)
+    (omega arith) (c.facts.ensures.order c.args.player) c.requires.all_units c.requires.small c.requires.fits at c.loop-set.invariant.0 in
     step.fits
 
 pub close_set-requires-clause-growth : goal.close_set-requires-clause-growth
 close_set-requires-clause-growth g c =
-    let sets : List InformationSet = player_sets c.args.form.now c.args.player in
-    let sums : ℕ → ℤ = amount_of (map g.W.Worth.amount c.args.worths.now) in
-    let m : ℕ = c.loop-set.set - 1 in
-    let set_is : c.loop-set.set ≡ m + 1 = omega arith in
-    let h : PlacedSet = placed_of_row c.place_at-place.result in
-    let below : m < length sets = omega (arith, all_places sets c.places-places.result.now c.places-places.ensures) in
-    let at : IsAt sets m h = is_at sets m h (c.facts.ensures.order c.args.player) below (ap (λ hs. slice_get hs m) (sym c.places-places.ensures) ∙ c.place_at-place.ensures) in
-    let kept : KeepsWorths g.W.Worth.width sums c.args.play.now sets (m + 1) (map g.W.Worth.amount c.loop-set.worths) = subst (λ k. KeepsWorths g.W.Worth.width sums c.args.play.now sets k (map g.W.Worth.amount c.loop-set.worths)) set_is c.loop-set.invariant.0 in
-    let step : SetStep g.W.Worth.width sums c.args.play.now sets (map g.R.Worth.amount c.args.regrets.now) m h (map g.W.Worth.amount c.loop-set.worths) =
-    set_step g.W.Worth.width sums c.args.play.now sets (map g.R.Worth.amount c.args.regrets.now) (map g.W.Worth.amount c.loop-set.worths) m h (c.facts.ensures.order c.args.player) c.requires.all_units c.requires.small c.requires.fits at kept in
+    let at = row_at (player_sets c.args.form.now c.args.player) c.places-places.result.now (c.loop-set.set - 1) c.place_at-place.result
+    (c.facts.ensures.order c.args.player) (omega arith) c.places-places.ensures c.place_at-place.ensures in
+    let worths : List ℤ = map g.W.Worth.amount c.loop-set.worths in
+    let regrets : List ℤ = map g.R.Worth.amount c.args.regrets.now in
+    let step = step_before g.W.Worth.width (amount_of (map g.W.Worth.amount c.args.worths.now)) c.args.play.now
+    (player_sets c.args.form.now c.args.player) regrets worths c.loop-set.set (c.loop-set.set - 1) (placed_of_row c.place_at-place.result)
+    (omega arith) (c.facts.ensures.order c.args.player) c.requires.all_units c.requires.small c.requires.fits at c.loop-set.invariant.0 in
     step.growth
 
 pub close_set-requires-clause-growth_fits : goal.close_set-requires-clause-growth_fits
 close_set-requires-clause-growth_fits g c =
-    let sets : List InformationSet = player_sets c.args.form.now c.args.player in
-    let sums : ℕ → ℤ = amount_of (map g.W.Worth.amount c.args.worths.now) in
-    let m : ℕ = c.loop-set.set - 1 in
-    let set_is : c.loop-set.set ≡ m + 1 = omega arith in
     let h : PlacedSet = placed_of_row c.place_at-place.result in
-    let below : m < length sets = omega (arith, all_places sets c.places-places.result.now c.places-places.ensures) in
-    let at : IsAt sets m h = is_at sets m h (c.facts.ensures.order c.args.player) below (ap (λ hs. slice_get hs m) (sym c.places-places.ensures) ∙ c.place_at-place.ensures) in
-    let kept : KeepsWorths g.W.Worth.width sums c.args.play.now sets (m + 1) (map g.W.Worth.amount c.loop-set.worths) = subst (λ k. KeepsWorths g.W.Worth.width sums c.args.play.now sets k (map g.W.Worth.amount c.loop-set.worths)) set_is c.loop-set.invariant.0 in
-    let step : SetStep g.W.Worth.width sums c.args.play.now sets (map g.R.Worth.amount c.args.regrets.now) m h (map g.W.Worth.amount c.loop-set.worths) =
-    set_step g.W.Worth.width sums c.args.play.now sets (map g.R.Worth.amount c.args.regrets.now) (map g.W.Worth.amount c.loop-set.worths) m h (c.facts.ensures.order c.args.player) c.requires.all_units c.requires.small c.requires.fits at kept in
-    λ s from to. c.requires.growth (amount_of (map g.W.Worth.amount c.loop-set.worths) s -ℤ set_value c.args.play.now (amount_of (map g.W.Worth.amount c.loop-set.worths)) h) (step.grows s from to)
+    let at = row_at (player_sets c.args.form.now c.args.player) c.places-places.result.now (c.loop-set.set - 1) c.place_at-place.result
+    (c.facts.ensures.order c.args.player) (omega arith) c.places-places.ensures c.place_at-place.ensures in
+    let worths : List ℤ = map g.W.Worth.amount c.loop-set.worths in
+    let regrets : List ℤ = map g.R.Worth.amount c.args.regrets.now in
+    let step = step_before g.W.Worth.width (amount_of (map g.W.Worth.amount c.args.worths.now)) c.args.play.now
+    (player_sets c.args.form.now c.args.player) regrets worths c.loop-set.set (c.loop-set.set - 1) (placed_of_row c.place_at-place.result)
+    (omega arith) (c.facts.ensures.order c.args.player) c.requires.all_units c.requires.small c.requires.fits at c.loop-set.invariant.0 in
+    λ s from to. c.requires.growth (amount_of worths s -ℤ set_value c.args.play.now (amount_of worths) h) (step.grows s from to)
 
 pub close_set-requires-clause-room : goal.close_set-requires-clause-room
 close_set-requires-clause-room g c =
-    let sets : List InformationSet = player_sets c.args.form.now c.args.player in
-    let sums : ℕ → ℤ = amount_of (map g.W.Worth.amount c.args.worths.now) in
-    let m : ℕ = c.loop-set.set - 1 in
-    let set_is : c.loop-set.set ≡ m + 1 = omega arith in
     let h : PlacedSet = placed_of_row c.place_at-place.result in
-    let below : m < length sets = omega (arith, all_places sets c.places-places.result.now c.places-places.ensures) in
-    let at : IsAt sets m h = is_at sets m h (c.facts.ensures.order c.args.player) below (ap (λ hs. slice_get hs m) (sym c.places-places.ensures) ∙ c.place_at-place.ensures) in
-    let kept : KeepsWorths g.W.Worth.width sums c.args.play.now sets (m + 1) (map g.W.Worth.amount c.loop-set.worths) = subst (λ k. KeepsWorths g.W.Worth.width sums c.args.play.now sets k (map g.W.Worth.amount c.loop-set.worths)) set_is c.loop-set.invariant.0 in
-    let step : SetStep g.W.Worth.width sums c.args.play.now sets (map g.R.Worth.amount c.args.regrets.now) m h (map g.W.Worth.amount c.loop-set.worths) =
-    set_step g.W.Worth.width sums c.args.play.now sets (map g.R.Worth.amount c.args.regrets.now) (map g.W.Worth.amount c.loop-set.worths) m h (c.facts.ensures.order c.args.player) c.requires.all_units c.requires.small c.requires.fits at kept in
-    let starts : start_of sets c.loop-set.set ≡ h.first + h.actions = ap (start_of sets) set_is ∙ at.next in
+    let behind : c.loop-set.set ≡ c.loop-set.set - 1 + 1 = omega arith in
+    let at = row_at (player_sets c.args.form.now c.args.player) c.places-places.result.now (c.loop-set.set - 1) c.place_at-place.result
+    (c.facts.ensures.order c.args.player) (omega arith) c.places-places.ensures c.place_at-place.ensures in
+    let worths : List ℤ = map g.W.Worth.amount c.loop-set.worths in
+    let regrets : List ℤ = map g.R.Worth.amount c.args.regrets.now in
+    let step = step_before g.W.Worth.width (amount_of (map g.W.Worth.amount c.args.worths.now)) c.args.play.now
+    (player_sets c.args.form.now c.args.player) regrets worths c.loop-set.set (c.loop-set.set - 1) (placed_of_row c.place_at-place.result)
+    (omega arith) (c.facts.ensures.order c.args.player) c.requires.all_units c.requires.small c.requires.fits at c.loop-set.invariant.0 in
+    let starts : start_of (player_sets c.args.form.now c.args.player) c.loop-set.set ≡ h.first + h.actions =
+    ap (start_of (player_sets c.args.form.now c.args.player)) behind ∙ at.next in
     λ s from to.
-    let more = amount_of (map g.W.Worth.amount c.loop-set.worths) s -ℤ set_value c.args.play.now (amount_of (map g.W.Worth.amount c.loop-set.worths)) h in
-    subst (λ r. FitsSigned g.R.Worth.width (r +ℤ more)) (sym (c.loop-set.invariant.2 s (omega (arith, starts)))) (c.requires.room s more (step.grows s from to))
+    let more = amount_of worths s -ℤ set_value c.args.play.now (amount_of worths) h in
+    subst (λ r. FitsSigned g.R.Worth.width (r +ℤ more)) (sym (c.loop-set.invariant.2 s (omega (arith, starts))))
+    (c.requires.room s more (step.grows s from to))
 
 pub loop-set-preserved : goal.loop-set-preserved
 loop-set-preserved g c =
-    let sets : List InformationSet = player_sets c.args.form.now c.args.player in
-    let sums : ℕ → ℤ = amount_of (map g.W.Worth.amount c.args.worths.now) in
-    let m : ℕ = c.loop-set.set - 1 in
-    let set_is : c.loop-set.set ≡ m + 1 = omega arith in
     let h : PlacedSet = placed_of_row c.place_at-place.result in
-    let below : m < length sets = omega (arith, all_places sets c.places-places.result.now c.places-places.ensures) in
-    let at : IsAt sets m h = is_at sets m h (c.facts.ensures.order c.args.player) below (ap (λ hs. slice_get hs m) (sym c.places-places.ensures) ∙ c.place_at-place.ensures) in
-    let kept : KeepsWorths g.W.Worth.width sums c.args.play.now sets (m + 1) (map g.W.Worth.amount c.loop-set.worths) = subst (λ k. KeepsWorths g.W.Worth.width sums c.args.play.now sets k (map g.W.Worth.amount c.loop-set.worths)) set_is c.loop-set.invariant.0 in
-    let step : SetStep g.W.Worth.width sums c.args.play.now sets (map g.R.Worth.amount c.args.regrets.now) m h (map g.W.Worth.amount c.loop-set.worths) =
-    set_step g.W.Worth.width sums c.args.play.now sets (map g.R.Worth.amount c.args.regrets.now) (map g.W.Worth.amount c.loop-set.worths) m h (c.facts.ensures.order c.args.player) c.requires.all_units c.requires.small c.requires.fits at kept in
-    let starts : start_of sets c.loop-set.set ≡ h.first + h.actions = ap (start_of sets) set_is ∙ at.next in (
+    let behind : c.loop-set.set ≡ c.loop-set.set - 1 + 1 = omega arith in
+    let at = row_at (player_sets c.args.form.now c.args.player) c.places-places.result.now (c.loop-set.set - 1) c.place_at-place.result
+    (c.facts.ensures.order c.args.player) (omega arith) c.places-places.ensures c.place_at-place.ensures in
+    let worths : List ℤ = map g.W.Worth.amount c.loop-set.worths in
+    let regrets : List ℤ = map g.R.Worth.amount c.args.regrets.now in
+    let step = step_before g.W.Worth.width (amount_of (map g.W.Worth.amount c.args.worths.now)) c.args.play.now
+    (player_sets c.args.form.now c.args.player) regrets worths c.loop-set.set (c.loop-set.set - 1) (placed_of_row c.place_at-place.result)
+    (omega arith) (c.facts.ensures.order c.args.player) c.requires.all_units c.requires.small c.requires.fits at c.loop-set.invariant.0 in
+    let starts : start_of (player_sets c.args.form.now c.args.player) c.loop-set.set ≡ h.first + h.actions =
+    ap (start_of (player_sets c.args.form.now c.args.player)) behind ∙ at.next in (
       record {
-        count = length-map c.close_set.new.worths g.W.Worth.amount ∙ c.close_set.ensures.worths_count ∙ sym (length-map c.loop-set.worths g.W.Worth.amount) ∙ kept.count;
+        count =
+            length-map c.close_set.new.worths g.W.Worth.amount ∙ c.close_set.ensures.worths_count ∙ sym (length-map c.loop-set.worths g.W.Worth.amount) ∙ c.loop-set.invariant.0.count;
         each = λ s low.
             ⊎_elim
             (λ here. rw here (c.close_set.ensures.worth_before ∙ step.before))
@@ -206,7 +158,7 @@ loop-set-preserved g c =
           ⊎_elim
           (λ inside.
           c.close_set.ensures.of_set s (omega (arith, at.first)) inside
-          ∙ ap (λ r. r +ℤ (amount_of (map g.W.Worth.amount c.loop-set.worths) s -ℤ set_value c.args.play.now (amount_of (map g.W.Worth.amount c.loop-set.worths)) h)) (c.loop-set.invariant.2 s (omega (arith, starts)))
+          ∙ ap (λ r. r +ℤ (amount_of worths s -ℤ set_value c.args.play.now (amount_of worths) h)) (c.loop-set.invariant.2 s (omega (arith, starts)))
           ∙ sym (step.regret s (omega (arith, at.first)) inside))
           (λ above. c.close_set.ensures.after_set s (omega arith) ∙ c.loop-set.invariant.3 s (omega (arith, starts)))
           (cases_lt s (h.first + h.actions)),
@@ -222,11 +174,19 @@ returns-clause-regrets g c =
     let after : List ℤ = regrets_after sums c.args.play.now sets (map g.R.Worth.amount c.args.regrets.now) in
     let done : c.loop-set.set ≡ 0 = omega arith in
     let starts : start_of sets c.loop-set.set ≡ 1 = ap (start_of sets) done in
-    ext_get_or (pos 0) (map g.R.Worth.amount c.loop-set.regrets) after (omega (arith, length-map c.loop-set.regrets g.R.Worth.amount, c.loop-set.invariant.1, regrets_count sums c.args.play.now sets (map g.R.Worth.amount c.args.regrets.now) (c.facts.ensures.order c.args.player), c.requires.as_regrets))
+    ext_get_or (pos 0) (map g.R.Worth.amount c.loop-set.regrets) after
+    (omega (
+      arith,
+      length-map c.loop-set.regrets g.R.Worth.amount,
+      c.loop-set.invariant.1,
+      c.requires.as_regrets,
+      regrets_count sums c.args.play.now sets (map g.R.Worth.amount c.args.regrets.now) (c.facts.ensures.order c.args.player),
+    ))
     (λ s low.
     ⊎_elim
     (λ first.
     let none : s ≡ 0 = omega arith in
-    c.loop-set.invariant.2 s (omega (arith, starts)) ∙ ap (regret_of (map g.R.Worth.amount c.args.regrets.now)) none ∙ c.requires.none_of_empty ∙ ap (regret_of after) (sym none))
+    c.loop-set.invariant.2 s (omega (arith, starts)) ∙ ap (regret_of (map g.R.Worth.amount c.args.regrets.now)) none
+    ∙ c.requires.none_of_empty ∙ ap (regret_of after) (sym none))
     (λ later. c.loop-set.invariant.3 s (omega (arith, starts)))
     (cases_lt s 1))

@@ -12,8 +12,6 @@ use Rattle.def_plan.specs.FormRows.{amount_of}
 
 pub own_row-requires : goal.own_row-requires
 own_row-requires g c =
-    let fits : FitsSigned w128 c.worth_at.result = search rules in
-    let row_is : to_z w128 (of_z w128 c.worth_at.result) ≡ c.worth_at.result = to_z-of_z w128 c.worth_at.result fits in
     let fits_small : FitsSigned w64 c.in-Some.row = search rules in
     let small_is : to_z w64 (of_z w64 c.in-Some.row) ≡ c.in-Some.row = to_z-of_z w64 c.in-Some.row fits_small in
     let known = c.in-Some.ensures.within in

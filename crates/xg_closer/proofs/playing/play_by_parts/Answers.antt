@@ -20,20 +20,20 @@ loop-i-init g c =
 
 pub overflow_add-sum_so_far : goal.overflow_add-sum_so_far
 overflow_add-sum_so_far g c =
-    let one = part_more (map g.R.Worth.amount c.args.regrets.now) (placed_of_row c.args.place) c.loop-i.i c.loop-i.sum_so_far c.part_of-sum_so_far.result c.args.sum
-    (omega arith) c.requires.some c.requires.whole c.loop-i.invariant.0 c.part_of-sum_so_far.ensures in
+    let one = part_more (map g.R.Worth.amount c.args.regrets.now) (placed_of_row c.args.place) c.loop-i.i c.loop-i.sum_so_far
+    c.part_of-sum_so_far.result c.args.sum (omega arith) c.requires.some c.requires.whole c.loop-i.invariant.0 c.part_of-sum_so_far.ensures in
     omega (arith, one.step.within, c.requires.small)
 
 pub units_of-next-requires-clause-within : goal.units_of-next-requires-clause-within
 units_of-next-requires-clause-within g c =
-    let one = part_more (map g.R.Worth.amount c.args.regrets.now) (placed_of_row c.args.place) c.loop-i.i c.loop-i.sum_so_far c.part_of-sum_so_far.result c.args.sum
-    (omega arith) c.requires.some c.requires.whole c.loop-i.invariant.0 c.part_of-sum_so_far.ensures in
+    let one = part_more (map g.R.Worth.amount c.args.regrets.now) (placed_of_row c.args.place) c.loop-i.i c.loop-i.sum_so_far
+    c.part_of-sum_so_far.result c.args.sum (omega arith) c.requires.some c.requires.whole c.loop-i.invariant.0 c.part_of-sum_so_far.ensures in
     one.step.within
 
 pub overflow_sub-next : goal.overflow_sub-next
 overflow_sub-next g c =
-    let one = part_more (map g.R.Worth.amount c.args.regrets.now) (placed_of_row c.args.place) c.loop-i.i c.loop-i.sum_so_far c.part_of-sum_so_far.result c.args.sum
-    (omega arith) c.requires.some c.requires.whole c.loop-i.invariant.0 c.part_of-sum_so_far.ensures in
+    let one = part_more (map g.R.Worth.amount c.args.regrets.now) (placed_of_row c.args.place) c.loop-i.i c.loop-i.sum_so_far
+    c.part_of-sum_so_far.result c.args.sum (omega arith) c.requires.some c.requires.whole c.loop-i.invariant.0 c.part_of-sum_so_far.ensures in
     omega (arith, one.step.grows, c.loop-i.invariant.1, c.units_of-next.ensures)
 
 pub loop-i-preserved : goal.loop-i-preserved

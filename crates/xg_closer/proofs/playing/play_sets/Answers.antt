@@ -1,4 +1,4 @@
-use Rattle.std.proofs.Common.{◌≡◌, ℕ, ◌+◌, ◌-◌, ◌<◌, List, length, slice_get, slice_index, arith, refl, sym, subst, ap, ◌∙◌, ⊎_elim, map}
+use Rattle.std.proofs.Common.{◌≡◌, ℕ, ◌+◌, ◌-◌, ◌<◌, List, length, slice_index, arith, refl, sym, subst, ap, ◌∙◌, ⊎_elim, map}
 use Rattle.std.proofs.lemmas.Bool.{cases_lt}
 use Rattle.std.proofs.lemmas.Grind.{same_number_lists}
 use Rattle.std.proofs.lemmas.List.{take_all}
@@ -7,7 +7,7 @@ use Rattle.def_round.specs.Play.{GivesAllUnits, play_of}
 use Rattle.def_round.proofs.Plays.{plays_all_units, plays_each_set}
 use Rattle.xg_seq.specs.Table.{placed_of_row}
 use Rattle.xg_plan.proofs.PlaceLemmas.{all_places}
-use Rattle.xg_closer.proofs.Sets.{IsAt, is_at, start_of}
+use Rattle.xg_closer.proofs.Sets.{row_at, start_of}
 use Rattle.xg_closer.proofs.PlayedSets.{few_at, played_at, small_at}
 use Rattle.xg_closer.proofs.playing.play_sets.Goals as goal
 
@@ -16,70 +16,57 @@ loop-set-init g c = (
   refl,
   λ s low.
       let first : s ≡ 0 = omega arith in
-      ap (λ s. slice_index c.args.play.now s) first ∙ c.gives_none_to_empty.ensures.none ∙ ap (λ s. slice_index (play_of (player_sets c.args.form.now c.args.player) (map g.R.Worth.amount c.args.regrets.now)) s) (sym first),
+      ap (λ s. slice_index c.args.play.now s) first ∙ c.gives_none_to_empty.ensures.none
+      ∙ ap (λ s. slice_index (play_of (player_sets c.args.form.now c.args.player) (map g.R.Worth.amount c.args.regrets.now)) s) (sym first),
 )
 
 pub play_set-requires-clause-from_one : goal.play_set-requires-clause-from_one
 play_set-requires-clause-from_one g c =
-    let sets : List InformationSet = player_sets c.args.form.now c.args.player in
-    let m : ℕ = c.loop-set.set in
-    let h : PlacedSet = placed_of_row c.place_at-place.result in
-    let below : m < length sets = omega (arith, all_places sets c.places-places.result.now c.places-places.ensures) in
-    let at : IsAt sets m h = is_at sets m h (c.facts.ensures.order c.args.player) below (ap (λ hs. slice_get hs m) (sym c.places-places.ensures) ∙ c.place_at-place.ensures) in
+    let at = row_at (player_sets c.args.form.now c.args.player) c.places-places.result.now c.loop-set.set c.place_at-place.result
+    (c.facts.ensures.order c.args.player) (omega arith) c.places-places.ensures c.place_at-place.ensures in
     omega (arith, at.first)
 
 pub play_set-requires-clause-some : goal.play_set-requires-clause-some
 play_set-requires-clause-some g c =
-    let sets : List InformationSet = player_sets c.args.form.now c.args.player in
-    let m : ℕ = c.loop-set.set in
-    let h : PlacedSet = placed_of_row c.place_at-place.result in
-    let below : m < length sets = omega (arith, all_places sets c.places-places.result.now c.places-places.ensures) in
-    let at : IsAt sets m h = is_at sets m h (c.facts.ensures.order c.args.player) below (ap (λ hs. slice_get hs m) (sym c.places-places.ensures) ∙ c.place_at-place.ensures) in
+    let at = row_at (player_sets c.args.form.now c.args.player) c.places-places.result.now c.loop-set.set c.place_at-place.result
+    (c.facts.ensures.order c.args.player) (omega arith) c.places-places.ensures c.place_at-place.ensures in
     at.some
 
 pub play_set-requires-clause-few : goal.play_set-requires-clause-few
 play_set-requires-clause-few g c =
     let sets : List InformationSet = player_sets c.args.form.now c.args.player in
-    let m : ℕ = c.loop-set.set in
     let h : PlacedSet = placed_of_row c.place_at-place.result in
-    let below : m < length sets = omega (arith, all_places sets c.places-places.result.now c.places-places.ensures) in
-    let at : IsAt sets m h = is_at sets m h (c.facts.ensures.order c.args.player) below (ap (λ hs. slice_get hs m) (sym c.places-places.ensures) ∙ c.place_at-place.ensures) in
-    few_at sets m h (c.facts.ensures.few_actions c.args.player) below at
+    let below : c.loop-set.set < length sets = omega (arith, all_places sets c.places-places.result.now c.places-places.ensures) in
+    let at = row_at (player_sets c.args.form.now c.args.player) c.places-places.result.now c.loop-set.set c.place_at-place.result
+    (c.facts.ensures.order c.args.player) (omega arith) c.places-places.ensures c.place_at-place.ensures in
+    few_at sets c.loop-set.set h (c.facts.ensures.few_actions c.args.player) below at
 
 pub play_set-requires-clause-inside : goal.play_set-requires-clause-inside
 play_set-requires-clause-inside g c =
-    let sets : List InformationSet = player_sets c.args.form.now c.args.player in
-    let m : ℕ = c.loop-set.set in
-    let h : PlacedSet = placed_of_row c.place_at-place.result in
-    let below : m < length sets = omega (arith, all_places sets c.places-places.result.now c.places-places.ensures) in
-    let at : IsAt sets m h = is_at sets m h (c.facts.ensures.order c.args.player) below (ap (λ hs. slice_get hs m) (sym c.places-places.ensures) ∙ c.place_at-place.ensures) in
+    let at = row_at (player_sets c.args.form.now c.args.player) c.places-places.result.now c.loop-set.set c.place_at-place.result
+    (c.facts.ensures.order c.args.player) (omega arith) c.places-places.ensures c.place_at-place.ensures in
     omega (arith, at.inside, c.requires.as_regrets)
 
 pub play_set-requires-clause-limit : goal.play_set-requires-clause-limit
 play_set-requires-clause-limit g c =
-    let sets : List InformationSet = player_sets c.args.form.now c.args.player in
-    let m : ℕ = c.loop-set.set in
-    let h : PlacedSet = placed_of_row c.place_at-place.result in
-    let below : m < length sets = omega (arith, all_places sets c.places-places.result.now c.places-places.ensures) in
-    let at : IsAt sets m h = is_at sets m h (c.facts.ensures.order c.args.player) below (ap (λ hs. slice_get hs m) (sym c.places-places.ensures) ∙ c.place_at-place.ensures) in
     omega (arith, c.facts.ensures.limit c.args.player, c.requires.as_regrets)
 
 pub play_set-requires-clause-small : goal.play_set-requires-clause-small
 play_set-requires-clause-small g c =
     let sets : List InformationSet = player_sets c.args.form.now c.args.player in
-    let m : ℕ = c.loop-set.set in
     let h : PlacedSet = placed_of_row c.place_at-place.result in
-    let below : m < length sets = omega (arith, all_places sets c.places-places.result.now c.places-places.ensures) in
-    let at : IsAt sets m h = is_at sets m h (c.facts.ensures.order c.args.player) below (ap (λ hs. slice_get hs m) (sym c.places-places.ensures) ∙ c.place_at-place.ensures) in
-    small_at sets (map g.R.Worth.amount c.args.regrets.now) m h at c.requires.small (few_at sets m h (c.facts.ensures.few_actions c.args.player) below at)
+    let below : c.loop-set.set < length sets = omega (arith, all_places sets c.places-places.result.now c.places-places.ensures) in
+    let at = row_at (player_sets c.args.form.now c.args.player) c.places-places.result.now c.loop-set.set c.place_at-place.result
+    (c.facts.ensures.order c.args.player) (omega arith) c.places-places.ensures c.place_at-place.ensures in
+    small_at sets (map g.R.Worth.amount c.args.regrets.now) c.loop-set.set h at c.requires.small
+    (few_at sets c.loop-set.set h (c.facts.ensures.few_actions c.args.player) below at)
 
 pub loop-set-preserved : goal.loop-set-preserved
 loop-set-preserved g c =
     let sets : List InformationSet = player_sets c.args.form.now c.args.player in
-    let m : ℕ = c.loop-set.set in
     let h : PlacedSet = placed_of_row c.place_at-place.result in
-    let below : m < length sets = omega (arith, all_places sets c.places-places.result.now c.places-places.ensures) in
-    let at : IsAt sets m h = is_at sets m h (c.facts.ensures.order c.args.player) below (ap (λ hs. slice_get hs m) (sym c.places-places.ensures) ∙ c.place_at-place.ensures) in (
+    let at = row_at (player_sets c.args.form.now c.args.player) c.places-places.result.now c.loop-set.set c.place_at-place.result
+    (c.facts.ensures.order c.args.player) (omega arith) c.places-places.ensures c.place_at-place.ensures in (
       c.play_set.ensures.count ∙ c.loop-set.invariant.0,
       λ s low.
           ⊎_elim
@@ -88,7 +75,8 @@ loop-set-preserved g c =
           let i : ℕ = s - h.first in
           let is : h.first + i ≡ s = omega arith in
           let inside : i < h.actions = omega (arith, at.next) in
-          ap (λ s. slice_index c.play_set.new.play s) (sym is) ∙ c.play_set.ensures.given i inside ∙ sym (played_at sets (map g.R.Worth.amount c.args.regrets.now) m h at i inside)
+          ap (λ s. slice_index c.play_set.new.play s) (sym is) ∙ c.play_set.ensures.given i inside
+          ∙ sym (played_at sets (map g.R.Worth.amount c.args.regrets.now) c.loop-set.set h at i inside)
           ∙ ap (λ s. slice_index (play_of sets (map g.R.Worth.amount c.args.regrets.now)) s) is)
           (cases_lt s h.first),
     )
@@ -97,20 +85,26 @@ pub returns-clause-by_regrets : goal.returns-clause-by_regrets
 returns-clause-by_regrets g c =
     let sets : List InformationSet = player_sets c.args.form.now c.args.player in
     let done : c.loop-set.set ≡ length sets = omega (arith, all_places sets c.places-places.result.now c.places-places.ensures) in
-    let all : start_of sets c.loop-set.set ≡ sequence_count sets = ap (start_of sets) done ∙ ap sequence_count (take_all (length sets) sets (omega arith)) in
+    let all : start_of sets c.loop-set.set ≡ sequence_count sets =
+    ap (start_of sets) done ∙ ap sequence_count (take_all (length sets) sets (omega arith)) in
     let count = (plays_each_set sets (map g.R.Worth.amount c.args.regrets.now)).all_sequences in
-    same_number_lists c.loop-set.play (play_of sets (map g.R.Worth.amount c.args.regrets.now)) (c.loop-set.invariant.0 ∙ c.requires.as_play ∙ sym count)
+    same_number_lists c.loop-set.play (play_of sets (map g.R.Worth.amount c.args.regrets.now))
+    (c.loop-set.invariant.0 ∙ c.requires.as_play ∙ sym count)
     (λ s low. c.loop-set.invariant.1 s (omega (arith, all, count, c.loop-set.invariant.0, c.requires.as_play)))
 
 pub returns-clause-all_units : goal.returns-clause-all_units
 returns-clause-all_units g c =
     let sets : List InformationSet = player_sets c.args.form.now c.args.player in
     let done : c.loop-set.set ≡ length sets = omega (arith, all_places sets c.places-places.result.now c.places-places.ensures) in
-    let all : start_of sets c.loop-set.set ≡ sequence_count sets = ap (start_of sets) done ∙ ap sequence_count (take_all (length sets) sets (omega arith)) in
+    let all : start_of sets c.loop-set.set ≡ sequence_count sets =
+    ap (start_of sets) done ∙ ap sequence_count (take_all (length sets) sets (omega arith)) in
     let count = (plays_each_set sets (map g.R.Worth.amount c.args.regrets.now)).all_sequences in
-    let is : c.loop-set.play ≡ play_of sets (map g.R.Worth.amount c.args.regrets.now) = same_number_lists c.loop-set.play (play_of sets (map g.R.Worth.amount c.args.regrets.now)) (c.loop-set.invariant.0 ∙ c.requires.as_play ∙ sym count)
+    let is : c.loop-set.play ≡ play_of sets (map g.R.Worth.amount c.args.regrets.now) =
+    same_number_lists c.loop-set.play (play_of sets (map g.R.Worth.amount c.args.regrets.now))
+    (c.loop-set.invariant.0 ∙ c.requires.as_play ∙ sym count)
     (λ s low. c.loop-set.invariant.1 s (omega (arith, all, count, c.loop-set.invariant.0, c.requires.as_play))) in
-    subst (λ play. GivesAllUnits play sets) (sym is) (plays_all_units sets (map g.R.Worth.amount c.args.regrets.now) (c.facts.ensures.order c.args.player))
+    subst (λ play. GivesAllUnits play sets) (sym is)
+    (plays_all_units sets (map g.R.Worth.amount c.args.regrets.now) (c.facts.ensures.order c.args.player))
 
 pub returns-clause-count : goal.returns-clause-count
 returns-clause-count g c = c.loop-set.invariant.0
