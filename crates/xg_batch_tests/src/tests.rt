@@ -12,7 +12,7 @@ use xg_batch::Item;
 use xg_io::OpenGate;
 use xg_read::FileFault;
 use xg_test_data::files::{ONE_LEAF, ONE_MOVER, PENNIES, TWICE_HIDDEN, TWO_JOBS};
-use xg_test_gates::{HeldPass, Meeting};
+use xg_test_data::{HeldPass, Meeting};
 
 /// Player one forgets at node 3 that they went on.
 const FORGETFUL: &str = r#"EFG 2 R "Absent" { "A" "B" }

@@ -1,7 +1,18 @@
 #![tactic(auto)]
-//! What tests of several crates are given, each once: game files, certificates, and trees by their nodes.
+//! What tests of several crates are given, each once: game files, certificates, trees by their nodes, and gates, which
+//! hold workers up. A worker that is held looks again for a limited number of turns, so that each test ends.
 
 pub mod certificates;
+mod counting;
+mod delays;
+mod event;
 pub mod files;
+mod held;
 pub mod linked;
+mod meeting;
 pub mod nodes;
+
+pub use counting::StripeCount;
+pub use delays::Delays;
+pub use held::{HeldPass, HeldStripe};
+pub use meeting::Meeting;
