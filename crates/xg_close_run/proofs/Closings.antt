@@ -15,9 +15,9 @@ use Rattle.xg_search.specs.declared.search.Search.{Search}
 use Rattle.xg_search.specs.Searches.{IsSearchOf, high_of, low_of, lower_of, upper_of}
 use Rattle.xg_close_run.specs.Brackets.{IsNarrowEnough, IsTooWide}
 use Rattle.xg_close_run.specs.Endings.{Closes, HasPairText}
-use Rattle.xg_close_run.specs.Searched.{IsEndingOf}
+use Rattle.xg_load.specs.Endings.{IsEndingOf}
 use Rattle.xg_close_run.specs.Widths.{IsWidth}
-use Rattle.xg_close_run.specs.declared.ending.Ending.{Ending}
+use Rattle.xg_load.specs.declared.ending.Ending.{Ending}
 use Rattle.xg_close_run.proofs.Found.{kept_narrow, plans_kept}
 
 not_true : IsTrue false → ⊥
@@ -44,23 +44,23 @@ module _ (asked : Option Fraction) (game : GameFile) (width : Fraction) (search 
   }
 
   -- the end by whether the text was written, and whether the bracket is as narrow as asked
-  pub closes_of : {T E : Type 0} (out : SinkCall) (r : Result T E) (is_closed : Bool) (ending : Ending)
-      → (IsTrue is_closed ↔ IsClosed) → IsEndingOf r is_closed ending → Writes out.before out.now text r
-      → HasCause out.faults.before out.faults.now r → Closes asked game out ending
+  pub closes_of : {T E : Type 0} (out : SinkCall) (r : Result T E) (is_narrow : Bool) (ending : Ending)
+      → (IsTrue is_narrow ↔ IsClosed) → IsEndingOf r ending → Writes out.before out.now text r
+      → HasCause out.faults.before out.faults.now r → Closes asked game out is_narrow ending
   closes_of out (Ok x) true ending narrow ends writes cause =
       let kept = kept_narrow (form_of_file game) (weighed_game game).unit search is width some in
-      subst (λ (e : Ending). Closes asked game out e) (sym ends) (
+      subst (λ (e : Ending). Closes asked game out true e) (sym ends) (
         cause,
         has_text (λ text low high. Wrote out text × IsNarrowEnough asked game low high)
             (writes, record { width = width; asks = asks; narrow = kept.1 (narrow.0 refl) }),
       )
   closes_of out (Ok x) false ending narrow ends writes cause =
       let kept = kept_narrow (form_of_file game) (weighed_game game).unit search is width some in
-      subst (λ (e : Ending). Closes asked game out e) (sym ends) (
+      subst (λ (e : Ending). Closes asked game out false e) (sym ends) (
         cause,
         has_text (λ text low high. Wrote out text × IsTooWide asked game low high)
             (writes, record { width = width; asks = asks; wide = λ h. not_true (narrow.1 (kept.0 h)) }),
       )
-  closes_of out (Err x) is_closed ending narrow ends writes cause =
-      subst (λ (e : Ending). Closes asked game out e) (sym ends)
+  closes_of out (Err x) is_narrow ending narrow ends writes cause =
+      subst (λ (e : Ending). Closes asked game out is_narrow e) (sym ends)
       (cause, has_text (λ text low high. WroteFront out text) writes)

@@ -1,6 +1,6 @@
 -- What the status of an ending shows, by the endings.
-use Rattle.std.proofs.Common.{◌≡◌, ◌≢◌, ℕ, ◌<◌, ◌≤◌, List, Option, Some, None, refl, sym, ◌∙◌, ap, subst, inl, inr, arith}
-use Rattle.std.specs.Prelude.{IfSome, IsSomeAnd, Result, Ok, Err}
+use Rattle.std.proofs.Common.{◌≡◌, ◌≢◌, ℕ, ◌<◌, ◌≤◌, List, [], Option, Some, None, refl, sym, ◌∙◌, ap, subst, inl, inr, arith}
+use Rattle.std.specs.Prelude.{Bool, true, false, IfSome, IsSomeAnd, Result, Ok, Err, string_bytes}
 use Rattle.def_fraction.specs.Fraction.{Fraction}
 use Rattle.def_outside.specs.Calls.{FilesCall, SinkCall, HasFailed, HasFailedOnce, HasNoFault, MayHaveFailed, Wrote, WroteFront, WroteNothing, IsUntouched}
 use Rattle.def_outside.proofs.Fronts.{once_may}
@@ -17,6 +17,7 @@ use Rattle.def_program.specs.Lines.{of_file, of_memory, of_reading, of_writing}
 use Rattle.def_program.specs.Meaning.{EachMeant, EndsWith, FileMeans, MeansOnly}
 use Rattle.def_program.specs.Program.{Answer, game_answer, refusal}
 use Rattle.def_program.specs.Text.{form_of_file, info_text}
+use Rattle.def_program.specs.TextLines.{fault_line, memory_line, read_line, write_line}
 use Rattle.def_game_numbers.specs.Weighed.{weighed_game}
 use Rattle.def_progress.specs.Progress.{Standing}
 use Rattle.def_program.proofs.Meant.{file_computed}
@@ -24,11 +25,12 @@ use Rattle.xg_load.specs.Loads.{LoadHasCause, Loads}
 use Rattle.xg_load.specs.declared.loading.LoadFault.{LoadFault}
 use Rattle.xg_load.specs.declared.loading.LoadFault.TheVariants as faults
 use Rattle.xg_close_run.specs.Brackets.{GoesWithInfo, InfoMeans, IsNarrowEnough, IsTooWide, IsTrueWhereTold, IsWritten}
-use Rattle.xg_close_run.specs.Endings.{Closes, Concludes, HasPairText, IsRead, IsRefusal, IsUnloaded, line_at_end, status_of}
+use Rattle.xg_load.specs.Endings.{IsLineIfRoom, IsUnloaded, line_at_end}
+use Rattle.xg_close_run.specs.Endings.{Closes, Concludes, HasPairText, IsRead, IsRefused, status_of_search}
 use Rattle.xg_close_run.specs.Searched.{IsTrueIn}
 use Rattle.xg_close_run.specs.Said.{IsLineAtEnd, of_bracket, of_fault}
-use Rattle.xg_close_run.specs.declared.ending.Ending.{Ending}
-use Rattle.xg_close_run.specs.declared.ending.Ending.TheVariants.{Narrow, Wide, Refused, ReadFault, WriteFault, NoMemory}
+use Rattle.xg_load.specs.declared.ending.Ending.{Ending}
+use Rattle.xg_load.specs.declared.ending.Ending.TheVariants.{Done, Refused, ReadFault, WriteFault, NoMemory}
 
 -- ---- what is written of a file that was loaded
 
@@ -86,58 +88,58 @@ module _ (asked : Option Fraction) (content : Option (List ℕ)) (files : FilesC
     }
 
     -- the end of a search on the game is that of the run
-    pub ended : (ending : Ending) → Closes asked game out ending → Concludes asked content files out ending
-    ended Narrow closes = (
+    pub ended : (narrow : Bool) (ending : Ending) → Closes asked game out narrow ending
+        → Concludes asked content files out narrow ending
+    ended true Done closes = (
       is_read,
       closes.0,
       written_of content game
           (λ text low high. Wrote out text × IsNarrowEnough asked game low high)
           (λ game text low high. Wrote out text × IsNarrowEnough asked game low high) loaded (λ text low high so. so) closes.1,
     )
-    ended Wide closes = (
+    ended false Done closes = (
       is_read,
       closes.0,
       written_of content game
           (λ text low high. Wrote out text × IsTooWide asked game low high)
           (λ game text low high. Wrote out text × IsTooWide asked game low high) loaded (λ text low high so. so) closes.1,
     )
-    ended WriteFault closes = (
+    ended narrow WriteFault closes = (
       is_read,
       closes.0,
       written_of content game (λ text low high. WroteFront out text)
           (λ game text low high. WroteFront out text) loaded (λ text low high so. so) closes.1,
     )
-    ended NoMemory closes = closes
-    ended (Refused line) closes = absurd closes
-    ended ReadFault closes = absurd closes
+    ended narrow NoMemory closes = closes
+    ended narrow (Refused line) closes = absurd closes
+    ended narrow ReadFault closes = absurd closes
 
   module _ (untouched : IsUntouched out) where
-    turned_back : (fault : FileFault) (ending : Ending) → IsRefusal fault ending
+    turned_back : (narrow : Bool) (fault : FileFault) (ending : Ending) → IsLineIfRoom (fault_line fault) ending
         → Loads content (Err (faults.Refused fault)) → (fault ≡ TooLong → most_bytes < files.taken)
-        → HasNoFault files.faults → Concludes asked content files out ending
-    turned_back fault (Refused line) is loaded counted read = record {
+        → HasNoFault files.faults → Concludes asked content files out narrow ending
+    turned_back narrow fault (Refused line) is loaded counted read = record {
       means = λ answer means. loaded_means content (Err fault) loaded answer means ∙ ap refusal (sym is);
       fits = of_file fault refl is counted;
       read = read;
       untouched = untouched;
     }
-    turned_back fault NoMemory is loaded counted read = untouched
-    turned_back fault Narrow is loaded counted read = absurd is
-    turned_back fault Wide is loaded counted read = absurd is
-    turned_back fault ReadFault is loaded counted read = absurd is
-    turned_back fault WriteFault is loaded counted read = absurd is
+    turned_back narrow fault NoMemory is loaded counted read = untouched
+    turned_back narrow fault Done is loaded counted read = absurd is
+    turned_back narrow fault ReadFault is loaded counted read = absurd is
+    turned_back narrow fault WriteFault is loaded counted read = absurd is
 
     -- no game was loaded: the file has this first fault, the files failed, or memory ran out
-    pub turned_down : (why : LoadFault) (ending : Ending) → IsUnloaded why ending → Loads content (Err why)
-        → (why ≡ faults.Refused TooLong → most_bytes < files.taken)
+    pub turned_down : (narrow : Bool) (why : LoadFault) (ending : Ending) → IsUnloaded why ending
+        → Loads content (Err why) → (why ≡ faults.Refused TooLong → most_bytes < files.taken)
         → LoadHasCause {T = GameFile} files.faults.before files.faults.now (Err why)
-        → Concludes asked content files out ending
-    turned_down (faults.Refused fault) ending is loaded counted cause =
-        turned_back fault ending is loaded (λ e. counted (ap faults.Refused e)) cause
-    turned_down faults.ReadFault ending is loaded counted cause =
-        subst (λ (e : Ending). Concludes asked content files out e) (sym is) (cause, untouched)
-    turned_down faults.NoMemory ending is loaded counted cause =
-        subst (λ (e : Ending). Concludes asked content files out e) (sym is) untouched
+        → Concludes asked content files out narrow ending
+    turned_down narrow (faults.Refused fault) ending is loaded counted cause =
+        turned_back narrow fault ending is loaded (λ e. counted (ap faults.Refused e)) cause
+    turned_down narrow faults.ReadFault ending is loaded counted cause =
+        subst (λ (e : Ending). Concludes asked content files out narrow e) (sym is) (cause, untouched)
+    turned_down narrow faults.NoMemory ending is loaded counted cause =
+        subst (λ (e : Ending). Concludes asked content files out narrow e) (sym is) untouched
 
 -- ---- the promises of the status, and of the line that goes with it
 pub record KeepsStatus (asked : Option Fraction) (content : Option (List ℕ)) (files : FilesCall) (out : SinkCall)
@@ -166,8 +168,8 @@ module _ (asked : Option Fraction) (content : Option (List ℕ)) (files : FilesC
   abbrev Keeps : ℕ → List ℕ → Type 0
   Keeps status line = KeepsStatus asked content files out status line
 
-  shown : (ending : Ending) → Concludes asked content files out ending → Keeps (status_of ending) (line_at_end ending)
-  shown Narrow is = record {
+  narrow_shown : Concludes asked content files out true Done → Keeps 0 []
+  narrow_shown is = record {
     range = omega arith;
     taken = λ e. absurd cc;
     refused = λ e. absurd cc;
@@ -183,7 +185,9 @@ module _ (asked : Option Fraction) (content : Option (List ℕ)) (files : FilesC
     fits = of_bracket (inl refl) refl;
     answered = λ e. absurd cc;
   }
-  shown Wide is = record {
+
+  wide_shown : Concludes asked content files out false Done → Keeps 6 []
+  wide_shown is = record {
     range = omega arith;
     taken = λ e. absurd cc;
     refused = λ e. absurd cc;
@@ -199,7 +203,9 @@ module _ (asked : Option Fraction) (content : Option (List ℕ)) (files : FilesC
     fits = of_bracket (inr refl) refl;
     answered = λ e. absurd cc;
   }
-  shown (Refused line) is = record {
+
+  refused_shown : (line : List ℕ) → IsRefused content files out line → Keeps 1 line
+  refused_shown line is = record {
     range = omega arith;
     taken = λ e. absurd cc;
     refused = λ _ answer means. ap (λ (a : Answer). a.status) (is.means answer means);
@@ -215,7 +221,9 @@ module _ (asked : Option Fraction) (content : Option (List ℕ)) (files : FilesC
     fits = of_fault is.fits;
     answered = λ _ answer means. ap (λ (a : Answer). a.line) (is.means answer means);
   }
-  shown ReadFault is = record {
+
+  unread_shown : HasFailedOnce files.faults × IsUntouched out → Keeps 3 read_line
+  unread_shown is = record {
     range = omega arith;
     taken = λ e. absurd cc;
     refused = λ e. absurd cc;
@@ -231,7 +239,10 @@ module _ (asked : Option Fraction) (content : Option (List ℕ)) (files : FilesC
     fits = of_fault (of_reading refl refl);
     answered = λ e. absurd cc;
   }
-  shown WriteFault is = record {
+
+  cut_shown : IsRead content files × HasFailedOnce out.faults
+      × IsWritten content (λ game text low high. WroteFront out text) → Keeps 4 write_line
+  cut_shown is = record {
     range = omega arith;
     taken = λ e. absurd cc;
     refused = λ e. absurd cc;
@@ -247,7 +258,9 @@ module _ (asked : Option Fraction) (content : Option (List ℕ)) (files : FilesC
     fits = of_fault (of_writing refl refl);
     answered = λ e. absurd cc;
   }
-  shown NoMemory is = record {
+
+  without_memory_shown : IsUntouched out → Keeps 5 memory_line
+  without_memory_shown is = record {
     range = omega arith;
     taken = λ e. absurd cc;
     refused = λ e. absurd cc;
@@ -264,8 +277,21 @@ module _ (asked : Option Fraction) (content : Option (List ℕ)) (files : FilesC
     answered = λ e. absurd cc;
   }
 
+  shown : (narrow : Bool) (ending : Ending) → Concludes asked content files out narrow ending
+      → Keeps (status_of_search narrow ending) (line_at_end ending)
+  shown true Done is = narrow_shown is
+  shown true (Refused line) is = refused_shown (string_bytes line) is
+  shown true ReadFault is = unread_shown is
+  shown true WriteFault is = cut_shown is
+  shown true NoMemory is = without_memory_shown is
+  shown false Done is = wide_shown is
+  shown false (Refused line) is = refused_shown (string_bytes line) is
+  shown false ReadFault is = unread_shown is
+  shown false WriteFault is = cut_shown is
+  shown false NoMemory is = without_memory_shown is
+
   -- the same of a number that is its status
-  pub status_shown : (ending : Ending) → Concludes asked content files out ending → (status : ℕ)
-      → status ≡ status_of ending → Keeps status (line_at_end ending)
-  status_shown ending is status same =
-      subst (λ (n : ℕ). Keeps n (line_at_end ending)) (sym same) (shown ending is)
+  pub status_shown : (narrow : Bool) (ending : Ending) → Concludes asked content files out narrow ending → (status : ℕ)
+      → status ≡ status_of_search narrow ending → Keeps status (line_at_end ending)
+  status_shown narrow ending is status same =
+      subst (λ (n : ℕ). Keeps n (line_at_end ending)) (sym same) (shown narrow ending is)

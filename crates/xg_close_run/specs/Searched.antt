@@ -1,5 +1,5 @@
 -- What a search of plans works with, and what it finds.
-use Rattle.std.specs.Prelude.{◌≡◌, ℕ, ◌*◌, ◌≤◌, Bool, true, false, ℤ, pos, ◌-ℤ◌, ◌≤ℤ◌, List, Option, Result, Ok, Err}
+use Rattle.std.specs.Prelude.{◌≡◌, ℕ, ◌*◌, ◌≤◌, ℤ, pos, ◌-ℤ◌, ◌≤ℤ◌, List, Option}
 use Rattle.def_sums.specs.Limits.{most_root}
 use Rattle.def_fraction.specs.Fraction.{Fraction, most}
 use Rattle.def_plan.specs.Form.{SequenceForm}
@@ -10,8 +10,6 @@ use Rattle.def_progress.specs.Decimals.{value_of}
 use Rattle.def_progress.specs.Progress.{Standing}
 use Rattle.xg_jobs.specs.Table.{HasLeavesOf}
 use Rattle.xg_close_run.specs.Widths.{IsShown}
-use Rattle.xg_close_run.specs.declared.ending.Ending.{Ending}
-use Rattle.xg_close_run.specs.declared.ending.Ending.TheVariants.{Narrow, Wide, WriteFault}
 use Rattle.xg_close_run.specs.declared.searching.SearchedGame.{SearchedGame}
 use Rattle.xg_close_run.specs.declared.width.Width.{Width}
 
@@ -47,9 +45,3 @@ pub record IsTrueIn (form : SequenceForm) (unit : ℕ) (asked : Option Fraction)
 
 abbrev pub IsTrueOf : SearchedGame → Option Fraction → Standing → Type 0
 IsTrueOf game asked standing = IsTrueIn game.form.now game.unit asked standing
-
--- the end of a search by whether its text was written, and whether it's as narrow as asked
-abbrev pub IsEndingOf : {T E : Type 0} → Result T E → Bool → Ending → Type 0
-IsEndingOf (Ok _) true ending = ending ≡ Narrow
-IsEndingOf (Ok _) false ending = ending ≡ Wide
-IsEndingOf (Err _) is_closed ending = ending ≡ WriteFault

@@ -1,5 +1,5 @@
 //! Closing the bracket of an accepted game.
-ghost use Rattle.std.specs.Prelude.{◌≡◌, [], ◌∷◌, IfOk, IsTrue, length, true};
+ghost use Rattle.std.specs.Prelude.{◌≡◌, [], ◌∷◌, IfOk, IsTrue, length, true, false};
 ghost use Rattle.def_close.specs.Plans.{ends_of_plans, one_line, pair_text, whole_line};
 ghost use Rattle.def_game_numbers.specs.Weighed.{weighed_game};
 ghost use Rattle.def_program.specs.Text.{form_of_file, game_head};
@@ -12,11 +12,10 @@ ghost use Rattle.xg_jobs.specs.Table.{HasLeavesOf};
 ghost use Rattle.xg_search.specs.Searches.{IsSearchOf, lower_of, upper_of};
 ghost use Rattle.xg_close_run.specs.Endings.{Closes};
 ghost use Rattle.xg_close_run.specs.Said.{SaysProgress};
-ghost use Rattle.xg_close_run.specs.Searched.{IsEndingOf, IsSmallWidth, IsTrueIn, width_of};
+ghost use Rattle.xg_close_run.specs.Searched.{IsSmallWidth, IsTrueIn, width_of};
 ghost use Rattle.xg_close_run.specs.Widths.{IsShown, IsWidth};
 ghost use Rattle.xg_close_lines.specs.Texts.{asked_text};
 
-use crate::ending::Ending;
 use crate::searching::{SearchedGame, search_on};
 use crate::text::CertificateText;
 use crate::width::{Width, width_asked};
@@ -26,7 +25,7 @@ use xg_close_words::Asked;
 use xg_engine::Settings;
 use xg_io::{Sink, WriteFault, write_paged};
 use xg_jobs::JobTable;
-use xg_load::AcceptedGame;
+use xg_load::{AcceptedGame, Ending};
 use xg_search::{PlanAndReply, Search};
 
 /// All rounds that a certificate can have in one line, at the greatest scale.
@@ -36,20 +35,25 @@ const WHOLE_LINE: Settings = Settings {
     scale: 1_048_576,
 };
 
-/// What closing a bracket came to, and whether `err` took all that was said on the way.
+/// What closing a bracket came to.
 #[derive(Drop)]
 pub(crate) struct Closing {
     pub(crate) ending: Ending,
+    /// Whether the bracket got as narrow as asked.
+    pub(crate) is_narrow: bool,
+    /// Whether `err` took all that was said on the way.
     pub(crate) is_heard: bool,
 }
 
-/// An end before which nothing was said.
+/// An end without a search, before which nothing was said.
 pub(crate) fn unsaid(ending: Ending) -> Closing
     ensures ending { result.ending ≡ ending }
+    ensures wide { result.is_narrow ≡ false }
     ensures heard { result.is_heard ≡ true }
 {
     Closing {
         ending,
+        is_narrow: false,
         is_heard: true,
     }
 }
@@ -64,7 +68,8 @@ pub(crate) fn close<O: Sink, E: Sink>(
     err: &mut E,
 ) -> Closing
     requires limits { AreWithinLimits asked.now }
-    ensures closes { Closes asked.now.width accepted.now (sink_call O.Sink out.old out.new) result.ending }
+    ensures closes { Closes asked.now.width accepted.now (sink_call O.Sink out.old out.new) result.is_narrow
+        result.ending }
     ensures said { SaysProgress (IsTrueIn (form_of_file accepted.now) (weighed_game accepted.now).unit asked.now.width)
         asked.now.quiet result.is_heard (sink_call E.Sink err.old err.new) }
     ensures quiet { IsTrue asked.now.quiet → err.new ≡ err.old }
@@ -103,7 +108,8 @@ fn close_by<O: Sink, E: Sink>(
     requires small { IsSmallWidth width.now }
     requires shown { IsShown asked.now.width (asked_text width.now.shown) }
     requires table { HasLeavesOf (form_of_file accepted.now) jobs.now }
-    ensures closes { Closes asked.now.width accepted.now (sink_call O.Sink out.old out.new) result.ending }
+    ensures closes { Closes asked.now.width accepted.now (sink_call O.Sink out.old out.new) result.is_narrow
+        result.ending }
     ensures said { SaysProgress (IsTrueIn (form_of_file accepted.now) (weighed_game accepted.now).unit asked.now.width)
         asked.now.quiet result.is_heard (sink_call E.Sink err.old err.new) }
     ensures quiet { IsTrue asked.now.quiet → err.new ≡ err.old }
@@ -123,10 +129,11 @@ fn close_by<O: Sink, E: Sink>(
         return unsaid(Ending::NoMemory);
     };
     let is_heard = search_on(asked, width, &game, &mut search, err);
-    let is_closed = game.is_closed(width, &search);
+    let is_narrow = game.is_closed(width, &search);
     let written = write_plans(accepted, trace, search, out);
     Closing {
-        ending: ending_of(written, is_closed),
+        ending: Ending::of_written(written),
+        is_narrow,
         is_heard,
     }
 }
@@ -208,15 +215,4 @@ fn write_plans<O: Sink>(
     let written = write_paged(out, &text);
     drop(outcome);
     written
-}
-
-/// The end of a search whose text was written, or cut off.
-fn ending_of(written: Result<(), WriteFault>, is_closed: bool) -> Ending
-    ensures { IsEndingOf written is_closed result }
-{
-    match written {
-        Ok(()) if is_closed => Ending::Narrow,
-        Ok(()) => Ending::Wide,
-        Err(_) => Ending::WriteFault,
-    }
 }

@@ -2,7 +2,6 @@
 #![tactic(auto)]
 
 mod closing;
-mod ending;
 mod program;
 mod searching;
 mod text;

@@ -7,15 +7,15 @@ ghost use Rattle.xg_close_words.specs.Limits.{AreWithinLimits};
 ghost use Rattle.xg_io.specs.Calls.{files_call, sink_call};
 ghost use Rattle.xg_close_run.specs.Brackets.{GoesWithInfo, InfoMeans, IsNarrowEnough, IsTooWide};
 ghost use Rattle.xg_close_run.specs.Brackets.{IsTrueWhereTold, IsWritten};
-ghost use Rattle.xg_close_run.specs.Endings.{Concludes, line_at_end, status_of};
+ghost use Rattle.xg_load.specs.Endings.{line_at_end};
+ghost use Rattle.xg_close_run.specs.Endings.{Concludes, status_of_search};
 ghost use Rattle.xg_close_run.specs.Said.{SaysOfSearch, SaysProgress};
 
 use crate::closing::{Closing, close, unsaid};
-use crate::ending::Ending;
 use std::alloc::Global;
 use xg_close_words::Asked;
 use xg_io::{Files, Sink};
-use xg_load::load;
+use xg_load::{Ending, load};
 
 /// Does all that the program does, and answers its exit status.
 ///
@@ -92,7 +92,7 @@ fn conclude<F: Files, O: Sink, E: Sink>(
     requires may_open { IsTrue (F.may_open files.old asked.now.file.now) }
     requires limits { AreWithinLimits asked.now }
     ensures concludes { Concludes asked.now.width (F.told files.old asked.now.file.now)
-        (files_call F.Files files.old files.new) (sink_call O.Sink out.old out.new) result.ending }
+        (files_call F.Files files.old files.new) (sink_call O.Sink out.old out.new) result.is_narrow result.ending }
     ensures opens { OpensAtMost (files_call F.Files files.old files.new) 1 }
     ensures said { SaysProgress (IsTrueWhereTold asked.now.width (F.told files.old asked.now.file.now)) asked.now.quiet
         result.is_heard (sink_call E.Sink err.old err.new) }
@@ -110,15 +110,21 @@ fn conclude<F: Files, O: Sink, E: Sink>(
 
 /// Says the line of the end, if there is one and `err` took all that was said before, and answers the exit status.
 fn finish<E: Sink>(closing: &Closing, err: &mut E) -> u8
-    ensures status { result ≡ status_of closing.now.ending }
+    ensures status { result ≡ status_of_search closing.now.is_narrow closing.now.ending }
     ensures silent { (result ≡ 0) ⊎ (result ≡ 6) → err.new ≡ err.old }
     ensures unheard { closing.now.is_heard ≡ false → err.new ≡ err.old }
     ensures said { closing.now.is_heard ≡ true
         → Says (sink_call E.Sink err.old err.new) (line_at_end closing.now.ending) }
 {
-    let status = closing.ending.status();
-    if closing.is_heard && status != 0 && status != 6 {
-        closing.ending.say(err);
+    let ending = &closing.ending;
+    let status = if closing.is_heard {
+        ending.finish(err)
+    } else {
+        ending.status()
+    };
+    if status == 0 && !closing.is_narrow {
+        6
+    } else {
+        status
     }
-    status
 }

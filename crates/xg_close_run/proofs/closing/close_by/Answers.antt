@@ -58,7 +58,7 @@ returns-clause-closes g c =
     let some : 1 ≤ (weighed_game game).unit * most_root = mul-le 1 1 (weighed_game game).unit most_root some_unit (omega arith) in
     closes_of c.args.asked.now.width game width found is c.requires.width some
     (sink_call g.O.Sink c.args.out.now c.write_plans-written.new.out) c.write_plans-written.result
-    c.is_closed-is_closed.result c.ending_of.result
-    (subst (λ (n : ℕ). IsTrue c.is_closed-is_closed.result ↔ AreAsNarrow width (n * most_root) (low_of found) (high_of found))
-    unit_is c.is_closed-is_closed.ensures)
-    c.ending_of.ensures c.write_plans-written.ensures.text c.write_plans-written.ensures.cause
+    c.is_closed-is_narrow.result c.of_written.result
+    (subst (λ (n : ℕ). IsTrue c.is_closed-is_narrow.result ↔ AreAsNarrow width (n * most_root) (low_of found) (high_of found))
+    unit_is c.is_closed-is_narrow.ensures)
+    c.of_written.ensures c.write_plans-written.ensures.text c.write_plans-written.ensures.cause

@@ -2,7 +2,7 @@ use Rattle.std.proofs.Common.{ℕ, List, Option, ◌∙◌}
 use Rattle.def_outside.specs.Calls.{FilesCall, SinkCall}
 use Rattle.xg_io.specs.Calls.{files_call, sink_call}
 use Rattle.xg_close_run.specs.Brackets.{IsTrueWhereTold}
-use Rattle.xg_close_run.specs.Endings.{line_at_end}
+use Rattle.xg_load.specs.Endings.{line_at_end}
 use Rattle.xg_close_run.proofs.Spoken.{said_at_end}
 use Rattle.xg_close_run.proofs.Statuses.{KeepsStatus, status_shown}
 use Rattle.xg_close_run.proofs.program.run.Goals as goal
@@ -16,7 +16,7 @@ returns g c =
     let ending = c.conclude-closing.result.ending in
     let says = c.conclude-closing.ensures.said in
     let shows : KeepsStatus asked.width content files out c.finish.result (line_at_end ending) =
-    status_shown asked.width content files out ending c.conclude-closing.ensures.concludes c.finish.result
+    status_shown asked.width content files out c.conclude-closing.result.is_narrow ending c.conclude-closing.ensures.concludes c.finish.result
     c.finish.ensures.status in
     let all = said_at_end g.E.Sink c.args.err.now c.conclude-closing.new.err c.finish.new.err
     (IsTrueWhereTold asked.width content) asked.quiet c.conclude-closing.result.is_heard (line_at_end ending) says
