@@ -20,8 +20,9 @@ use Rattle.def_closing.specs.Laws.{EvaluationsClose}
 use Rattle.def_closing.proofs.Roots.{roots_are_up}
 use Rattle.def_closing.proofs.BothPlayers.{both_players, dealt_one, dealt_two}
 use Rattle.def_closing.proofs.OneRound.{square_bound, side_bound}
-use Rattle.def_closing.proofs.AllRounds.{AreWithin, within_at_first, within_next, regrets_within, no_regret}
+use Rattle.def_closing.proofs.AllRounds.{AreWithin, within_at_first, within_next, regrets_within}
 use Rattle.def_closing.proofs.Paid.{pay-added_one, pay-added_two, pay-cleared_one, pay-cleared_two, gain-none, regrets_gain}
+use Rattle.def_plus.proofs.PlusRegrets.{none_yet}
 
 -- ---- all rounds
 pub record StandsWithin (form : SequenceForm) (root last n : ℕ) (spread_one spread_two : PlacedSet → ℕ) (standing : Standing) : Type 0 where
@@ -41,8 +42,8 @@ at_first : (form : SequenceForm) (root last : ℕ) (spread_one spread_two : Plac
 at_first form root last spread_one spread_two = record {
   within_one = within_at_first root last spread_one form.sets_one (sequence_count form.sets_one);
   within_two = within_at_first root last spread_two form.sets_two (sequence_count form.sets_two);
-  none_one = no_regret (sequence_count form.sets_one) 0;
-  none_two = no_regret (sequence_count form.sets_two) 0;
+  none_one = none_yet (sequence_count form.sets_one) 0;
+  none_two = none_yet (sequence_count form.sets_two) 0;
   long_one = length-replicate (sequence_count form.sets_one) 0;
   long_two = length-replicate (sequence_count form.sets_two) 0;
   paid = λ q_one q_two plan_one plan_two. omega (
@@ -50,8 +51,8 @@ at_first form root last spread_one spread_two = record {
     ints,
     pay-cleared_two form.leaves q_one (sequence_count form.sets_two),
     pay-cleared_one form.leaves (sequence_count form.sets_one) q_two,
-    gain-none (regret_of (replicate (sequence_count form.sets_one) (pos 0))) (sequences form.sets_one) q_one (no_regret (sequence_count form.sets_one)),
-    gain-none (regret_of (replicate (sequence_count form.sets_two) (pos 0))) (sequences form.sets_two) q_two (no_regret (sequence_count form.sets_two)),
+    gain-none (regret_of (replicate (sequence_count form.sets_one) (pos 0))) (sequences form.sets_one) q_one (none_yet (sequence_count form.sets_one)),
+    gain-none (regret_of (replicate (sequence_count form.sets_two) (pos 0))) (sequences form.sets_two) q_two (none_yet (sequence_count form.sets_two)),
   );
 }
 

@@ -23,12 +23,13 @@ use Rattle.def_plus.specs.PlusRounds.{next_plus_round, plus_rounds}
 use Rattle.def_plus.proofs.Cuts.{not_negative-cut, regret_of-cut, same_part}
 use Rattle.def_plus.proofs.Multiples.{at-added_times, length-added_times}
 use Rattle.def_plus.proofs.WeightLaws.{next_weight}
+use Rattle.def_plus.proofs.PlusRegrets.{none_yet}
 use Rattle.def_plus_run.specs.PlusRun.{plus_run, plus_evaluation}
 use Rattle.def_plus_run.proofs.PlusRuns.{plus_runs_sum_plans}
 use Rattle.def_closing.specs.Width.{IsSpread, dealing_cost, regret_bound, plus_width_bound}
 use Rattle.def_closing.specs.Laws.{PlusEvaluationsClose, PlusBracketsClose}
 use Rattle.def_closing.proofs.Potential.{potential}
-use Rattle.def_closing.proofs.AllRounds.{AreWithin, within_at_first, within_next, no_regret}
+use Rattle.def_closing.proofs.AllRounds.{AreWithin, within_at_first, within_next}
 use Rattle.def_closing.proofs.Paid.{pay-cleared_one, pay-cleared_two, regrets_gain}
 use Rattle.def_closing.proofs.BothPlayers.{both_players, dealt_one, dealt_two, worth_one, worth_two}
 use Rattle.def_closing.proofs.Closing.{all_regrets}
@@ -152,10 +153,10 @@ at_first : (form : SequenceForm) (root last : ℕ) (spread_one spread_two : Plac
 at_first form root last spread_one spread_two = record {
   within_one = within_at_first root last spread_one form.sets_one (sequence_count form.sets_one);
   within_two = within_at_first root last spread_two form.sets_two (sequence_count form.sets_two);
-  none_one = no_regret (sequence_count form.sets_one) 0;
-  none_two = no_regret (sequence_count form.sets_two) 0;
-  positive_one = λ s. omega (arith, ints, no_regret (sequence_count form.sets_one) s);
-  positive_two = λ s. omega (arith, ints, no_regret (sequence_count form.sets_two) s);
+  none_one = none_yet (sequence_count form.sets_one) 0;
+  none_two = none_yet (sequence_count form.sets_two) 0;
+  positive_one = λ s. omega (arith, ints, none_yet (sequence_count form.sets_one) s);
+  positive_two = λ s. omega (arith, ints, none_yet (sequence_count form.sets_two) s);
   long_one = length-replicate (sequence_count form.sets_one) 0;
   long_two = length-replicate (sequence_count form.sets_two) 0;
   paid = λ q_one q_two plan_one plan_two. omega (

@@ -1,4 +1,4 @@
-//! The texts that the program writes, in definitions alone.
+//! The lines of a check, by which alone a wrong line of a fault is refused.
 
 ghost use Rattle.def_program.specs.TextRows.{CheckLineRows};
 

@@ -153,18 +153,3 @@ pub fn second_is_last()
         (shared_in_two shared_head (high_end (pos 7) 6 ∷ []) (over (negative_of 2) 1) (over (negative_of 5) 6))
         ≡ Err (TotalDiffers Upper) }
 {}
-
-/// Rows: traces that widen, by the lines of both versions.
-#[tactic(auto, unfolding(def_fraction::specs::Divisors::gcd, def_fraction::specs::Fraction::fraction_of))]
-pub fn traces_by_their_lines()
-    ensures second_line_of_one { verdict_in_one shared_head (line 1 (traced 1 1 (pos 99999) 1 (pos 6)) ∷ [])
-        ≡ Err (TraceWidens 9) }
-    ensures third_line_of_one { verdict_in_one shared_head
-        (line 2 (traced 2 2 (negative_of 3) 1 (negative_of 99999)) ∷ [])
-        ≡ Err (TraceWidens 10) }
-    ensures second_line_of_two { verdict_in_two shared_head (line 1 (traced 1 1 (pos 99999) 1 (pos 6)) ∷ [])
-        ≡ Err (TraceWidens 10) }
-    ensures third_line_of_two { verdict_in_two shared_head
-        (line 2 (traced 2 2 (negative_of 3) 1 (negative_of 99999)) ∷ [])
-        ≡ Err (TraceWidens 11) }
-{}
