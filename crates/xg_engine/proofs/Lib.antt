@@ -6,3 +6,4 @@ pub mod PartsOfBoard
 pub mod OutcomeLaws
 pub mod GameFormIsOfTree
 pub mod Writable
+pub mod Left

@@ -1,6 +1,7 @@
 pub mod Ends
 pub mod Engines
 pub mod Evaluations
+pub mod Left
 pub mod Players
 pub mod Runs
 pub mod Sources

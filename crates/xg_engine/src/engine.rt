@@ -1,19 +1,14 @@
 //! The engine: a game in numbers, with what its last run left.
-ghost use Rattle.std.specs.Prelude.{◌≡◌, ◌≤◌, Err, IfOk, IfSome, None, OnErr, OnOk, Some, false};
+ghost use Rattle.std.specs.Prelude.{◌≡◌, Err, IfOk, None, OnErr, OnOk, Some, false};
 ghost use Rattle.std.specs.Option.{option_map};
 ghost use Rattle.std.specs.Thread.{IsSync};
 ghost use Rattle.def_cert_verdict.specs.Laws.{IsHeadOf};
 ghost use Rattle.def_file.specs.declared.FileFault.{FileFault};
 ghost use Rattle.def_game_numbers.specs.Numbers.{game_file_fault};
 ghost use Rattle.xg_cert.specs.Outcome.{head_of};
-ghost use Rattle.xg_cert.specs.Writable.{IsOutcomeOf};
-ghost use Rattle.def_round.specs.Rounds.{rounds};
-ghost use Rattle.def_run.specs.Run.{outcome};
 ghost use Rattle.def_plus.specs.declared.Variant.TheVariants.{Plain};
-ghost use Rattle.def_plus.specs.Variants.{rounds_of};
-ghost use Rattle.def_plus_run.specs.VariantRun.{outcome_of};
-ghost use Rattle.xg_engine.specs.Ends.{AreBoundsOfLine, AreUnbeaten, HasEnds, HasGapOfLine, NoLineIsWider};
-ghost use Rattle.xg_engine.specs.State.{AreWithinLimits, AreWithinLimitsOf, Asks, head_with, sums_of};
+ghost use Rattle.xg_engine.specs.Left.{IsLeftOf};
+ghost use Rattle.xg_engine.specs.State.{AreWithinLimits, AreWithinLimitsOf, Asks, head_with};
 ghost use Rattle.def_game_numbers.specs.Weighed.{weighed_game};
 ghost use Rattle.xg_jobs.specs.Table.{HasLeavesOf, Serves};
 
@@ -102,25 +97,10 @@ impl Engine {
         requires sync { IsSync Rt.row }
         requires can { M.can_make maker.now }
         requires limits { AreWithinLimits settings }
-        ensures outcome { OnOk result (self.new.outcome
-            ≡ Some (outcome self.old.game.form (head_with self.old.game settings))) }
-        ensures sums { OnOk result (self.new.sums
-            ≡ Some (sums_of (rounds self.old.game.form settings.scale settings.rounds))) }
+        ensures left { OnOk result (IsLeftOf Plain self.old.game settings self.new) }
         ensures no_memory { OnErr result (self.new.outcome ≡ None) }
         ensures no_memory_sums { OnErr result (self.new.sums ≡ None) }
         ensures game { self.new.game ≡ self.old.game }
-
-        // What the ends of the bracket bound, how far they are apart, and that no plans do better.
-        ensures bounds { OnOk result (1 ≤ settings.rounds
-            → IfSome self.new.outcome (HasEnds (AreBoundsOfLine self.old.game.form Plain settings.scale))) }
-        ensures gap { OnOk result (1 ≤ settings.rounds
-            → IfSome self.new.outcome (HasEnds (HasGapOfLine self.old.game.form Plain settings.scale))) }
-        ensures unbeaten { OnOk result (1 ≤ settings.rounds
-            → IfSome self.new.outcome (HasEnds (AreUnbeaten self.old.game.form Plain settings.scale))) }
-        ensures trace { OnOk result (IfSome self.new.outcome (λ outcome. NoLineIsWider Plain outcome.trace)) }
-
-        // It can be written as a certificate.
-        ensures writable { OnOk result (IfSome self.new.outcome (IsOutcomeOf self.old.game.form)) }
     {
         self.run_variant(rt, alloc, Variant::Plain, settings, maker)
     }
@@ -138,25 +118,10 @@ impl Engine {
         requires sync { IsSync Rt.row }
         requires can { M.can_make maker.now }
         requires limits { AreWithinLimitsOf variant settings }
-        ensures outcome { OnOk result (self.new.outcome
-            ≡ Some (outcome_of variant self.old.game.form (head_with self.old.game settings))) }
-        ensures sums { OnOk result (self.new.sums
-            ≡ Some (sums_of (rounds_of variant self.old.game.form settings.scale settings.rounds))) }
+        ensures left { OnOk result (IsLeftOf variant self.old.game settings self.new) }
         ensures no_memory { OnErr result (self.new.outcome ≡ None) }
         ensures no_memory_sums { OnErr result (self.new.sums ≡ None) }
         ensures game { self.new.game ≡ self.old.game }
-
-        // What the ends of the bracket bound, how far they are apart, and that no plans do better.
-        ensures bounds { OnOk result (1 ≤ settings.rounds
-            → IfSome self.new.outcome (HasEnds (AreBoundsOfLine self.old.game.form variant settings.scale))) }
-        ensures gap { OnOk result (1 ≤ settings.rounds
-            → IfSome self.new.outcome (HasEnds (HasGapOfLine self.old.game.form variant settings.scale))) }
-        ensures unbeaten { OnOk result (1 ≤ settings.rounds
-            → IfSome self.new.outcome (HasEnds (AreUnbeaten self.old.game.form variant settings.scale))) }
-        ensures trace { OnOk result (IfSome self.new.outcome (λ outcome. NoLineIsWider variant outcome.trace)) }
-
-        // It can be written as a certificate.
-        ensures writable { OnOk result (IfSome self.new.outcome (IsOutcomeOf self.old.game.form)) }
     {
         leave(&mut self.last_run, None);
         note_rows(alloc, self.numbers.form(), maker, &mut self.jobs)?;

@@ -1,16 +1,12 @@
 //! The engine of CFR+: a game in numbers, with what its last run left.
-ghost use Rattle.std.specs.Prelude.{◌≡◌, ◌≤◌, Err, IfOk, IfSome, None, OnErr, OnOk, Some};
+ghost use Rattle.std.specs.Prelude.{◌≡◌, Err, IfOk, None, OnErr, OnOk, Some};
 ghost use Rattle.std.specs.Option.{option_map};
 ghost use Rattle.std.specs.Thread.{IsSync};
 ghost use Rattle.def_file.specs.declared.FileFault.{FileFault};
 ghost use Rattle.def_plus.specs.declared.Variant.TheVariants.{Plus};
-ghost use Rattle.def_plus.specs.PlusRounds.{plus_rounds};
-ghost use Rattle.def_plus_run.specs.PlusRun.{plus_outcome};
 ghost use Rattle.def_game_numbers.specs.Numbers.{game_file_fault};
 ghost use Rattle.def_game_numbers.specs.Weighed.{weighed_game};
-ghost use Rattle.xg_cert.specs.Writable.{IsOutcomeOf};
-ghost use Rattle.xg_engine.specs.Ends.{AreBoundsOfLine, AreUnbeaten, HasEnds, HasGapOfLine, NoLineIsWider};
-ghost use Rattle.xg_engine.specs.State.{head_with, sums_of};
+ghost use Rattle.xg_engine.specs.Left.{IsLeftOf};
 ghost use Rattle.xg_plus.specs.Settings.{ArePlusSettings};
 
 use std::alloc::{AllocError, Global};
@@ -51,15 +47,9 @@ impl PlusEngine {
         Ok(PlusEngine { engine })
     }
 
-    /// The same of an engine that is there already, with what its last run left.
-    pub fn from_engine(engine: Engine) -> PlusEngine
-        ensures { result ≡ engine }
-    {
-        PlusEngine { engine }
-    }
-
     /// Plays rounds of CFR+ from the first one on (Tammelin 2014), and keeps the best of the average strategies that
-    /// are evaluated on the way. In the average the plans of round n count n times.
+    /// are evaluated on the way. In the average the plans of round n count n times, so an end of round n is divided by
+    /// 1 + 2 + .. + n.
     ///
     /// Nothing of an earlier run is used. What earlier runs left is gone also where there is no memory for this one.
     /// Memory is taken before the first round, and then by the maker of rows alone.
@@ -73,26 +63,10 @@ impl PlusEngine {
         requires sync { IsSync Rt.row }
         requires can { M.can_make maker.now }
         requires limits { ArePlusSettings settings }
-        ensures outcome { OnOk result (self.new.outcome
-            ≡ Some (plus_outcome self.old.game.form (head_with self.old.game settings))) }
-        ensures sums { OnOk result (self.new.sums
-            ≡ Some (sums_of (plus_rounds self.old.game.form settings.scale settings.rounds))) }
+        ensures left { OnOk result (IsLeftOf Plus self.old.game settings self.new) }
         ensures no_memory { OnErr result (self.new.outcome ≡ None) }
         ensures no_memory_sums { OnErr result (self.new.sums ≡ None) }
         ensures game { self.new.game ≡ self.old.game }
-
-        // What the ends of the bracket bound, how far they are apart, and that no plans do better: an end of round n is
-        // divided by 1 + 2 + .. + n.
-        ensures bounds { OnOk result (1 ≤ settings.rounds
-            → IfSome self.new.outcome (HasEnds (AreBoundsOfLine self.old.game.form Plus settings.scale))) }
-        ensures gap { OnOk result (1 ≤ settings.rounds
-            → IfSome self.new.outcome (HasEnds (HasGapOfLine self.old.game.form Plus settings.scale))) }
-        ensures unbeaten { OnOk result (1 ≤ settings.rounds
-            → IfSome self.new.outcome (HasEnds (AreUnbeaten self.old.game.form Plus settings.scale))) }
-        ensures trace { OnOk result (IfSome self.new.outcome (λ outcome. NoLineIsWider Plus outcome.trace)) }
-
-        // It can be written as a text of CFR+.
-        ensures writable { OnOk result (IfSome self.new.outcome (IsOutcomeOf self.old.game.form)) }
     {
         self.engine
             .run_variant(rt, alloc, Variant::Plus, settings, maker)

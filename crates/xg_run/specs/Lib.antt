@@ -4,5 +4,4 @@ pub mod RefusalLine
 pub mod Endings
 pub mod Concludes
 pub mod Written
-pub mod Engines
 pub mod Batches

@@ -8,7 +8,6 @@ mod certificate;
 mod check;
 mod check_lines;
 mod ending;
-mod engine;
 mod given;
 mod made;
 mod playing;

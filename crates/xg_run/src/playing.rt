@@ -1,23 +1,20 @@
 //! Solving an accepted game.
-ghost use Rattle.std.specs.Prelude.{◌≡◌, IfOk, IfSome, OnOk, Some};
+ghost use Rattle.std.specs.Prelude.{◌≡◌, IfOk, OnOk};
 ghost use Rattle.std.specs.Thread.{IsSync};
 ghost use Rattle.xg_io.specs.Calls.{sink_call};
 ghost use Rattle.def_file.specs.Content.{GameFile};
 ghost use Rattle.def_game_numbers.specs.Weighed.{weighed_game};
-ghost use Rattle.def_plus_run.specs.VariantRun.{outcome_of};
 ghost use Rattle.def_program.specs.Text.{played_text};
-ghost use Rattle.xg_engine.specs.State.{AreWithinLimitsOf, head_with};
+ghost use Rattle.xg_engine.specs.Left.{IsLeftOf};
+ghost use Rattle.xg_engine.specs.State.{AreWithinLimitsOf};
 ghost use Rattle.xg_jobs.specs.Rows.{AreNumbersOf, ArePlainSums};
 ghost use Rattle.xg_jobs.specs.Table.{IsTableOf};
 ghost use Rattle.xg_run.specs.Concludes.{Tells};
-ghost use Rattle.xg_run.specs.Engines.{state_of, variant_of};
 ghost use Rattle.xg_load.specs.Settings.{settings_seen};
-ghost use Rattle.xg_cert.specs.Writable.{IsOutcomeOf};
 ghost use Rattle.xg_run.specs.Written.{IsEndingOf};
 
 use crate::certificate::PlayedText;
 use crate::ending::Ending;
-use crate::engine::VariantEngine;
 use crate::rows::SharedRows;
 use std::alloc::{AllocError, Global};
 use std::marker::Sync;
@@ -25,7 +22,7 @@ use std::sync::Wait;
 use std::thread::Threads;
 use xg_board::MadeBy;
 use xg_cert::Outcome;
-use xg_engine::{Settings, Variant};
+use xg_engine::{Engine, Settings, Variant};
 use xg_io::{Gate, Sink, WriteFault, write_paged};
 use xg_jobs::{JobTable, PlainRows, RowInput, Rows};
 use xg_load::AcceptedGame;
@@ -48,10 +45,9 @@ pub fn play<Rt: Threads + Wait + Sync, O: Sink, G: Gate>(
         drop(accepted);
         return ending;
     }
-    let Ok(engine) = accepted.into_engine(alloc) else {
+    let Ok(mut engine) = accepted.into_engine(alloc) else {
         return Ending::NoMemory;
     };
-    let mut engine = VariantEngine::of(variant, engine);
     let ending = play_by(rt, alloc, &mut engine, variant, settings, rows, out);
     drop(engine);
     ending
@@ -61,18 +57,17 @@ pub fn play<Rt: Threads + Wait + Sync, O: Sink, G: Gate>(
 fn play_by<Rt: Threads + Wait + Sync, O: Sink, G: Gate>(
     rt: &Rt,
     alloc: Global,
-    engine: &mut VariantEngine,
+    engine: &mut Engine,
     variant: Variant,
     settings: Settings,
     rows: &SharedRows<'_, G>,
     out: &mut O,
 ) -> Ending
-    requires variant { variant_of engine.old ≡ variant }
-    requires limits { AreWithinLimitsOf variant settings }
-    ensures { (game : GameFile) → (state_of engine.old).game ≡ weighed_game game
+    requires { AreWithinLimitsOf variant settings }
+    ensures { (game : GameFile) → engine.old.game ≡ weighed_game game
         → Tells (played_text variant game (settings_seen settings)) (sink_call O.Sink out.old out.new) result }
 {
-    let Ok(()) = play_rounds(rt, alloc, engine, settings, rows) else {
+    let Ok(()) = play_rounds(rt, alloc, engine, variant, settings, rows) else {
         return Ending::NoMemory;
     };
     match engine.outcome() {
@@ -92,20 +87,17 @@ fn play_by<Rt: Threads + Wait + Sync, O: Sink, G: Gate>(
 fn play_rounds<Rt: Threads + Wait + Sync, G: Gate>(
     rt: &Rt,
     alloc: Global,
-    engine: &mut VariantEngine,
+    engine: &mut Engine,
+    variant: Variant,
     settings: Settings,
     rows: &SharedRows<'_, G>,
 ) -> Result<(), AllocError>
-    requires limits { AreWithinLimitsOf (variant_of engine.old) settings }
-    ensures outcome { let game = (state_of engine.old).game in
-        OnOk result ((state_of engine.new).outcome
-        ≡ Some (outcome_of (variant_of engine.old) game.form (head_with game settings))) }
-    ensures game { (state_of engine.new).game ≡ (state_of engine.old).game }
-    ensures writable { OnOk result (IfSome (state_of engine.new).outcome
-        (IsOutcomeOf (state_of engine.old).game.form)) }
+    requires { AreWithinLimitsOf variant settings }
+    ensures left { OnOk result (IsLeftOf variant engine.old.game settings engine.new) }
+    ensures game { engine.new.game ≡ engine.old.game }
 {
     if rows.workers == 1 {
-        return engine.run(rt, alloc, settings, &PlainRows);
+        return engine.run_variant(rt, alloc, variant, settings, &PlainRows);
     }
     let maker = MadeBy {
         make: |input: &RowInput<'_>, jobs: &JobTable| -> Result<Rows, AllocError>
@@ -115,7 +107,7 @@ fn play_rounds<Rt: Threads + Wait + Sync, G: Gate>(
             ensures { IfOk result (λ made. ArePlainSums input.now.form.now input.now.one.now input.now.two.now made) }
         { rows.rows(rt, alloc, input, jobs) },
     };
-    engine.run(rt, alloc, settings, &maker)
+    engine.run_variant(rt, alloc, variant, settings, &maker)
 }
 
 /// Writes the text where no rounds are asked.

@@ -5,7 +5,6 @@ use Rattle.def_plus_run.specs.VariantRun.{outcome_of}
 use Rattle.def_program.specs.Text.{form_of_file, played_text}
 use Rattle.def_game_numbers.specs.Weighed.{weighed_game}
 use Rattle.xg_engine.specs.State.{head_with}
-use Rattle.xg_run.specs.Engines.{state_of, variant_of}
 use Rattle.xg_load.specs.Settings.{settings_seen}
 use Rattle.xg_run.proofs.Solved.{tells, writes_of}
 use Rattle.xg_run.proofs.Texts.{outcome_text, played_is, same_outcome}
@@ -15,14 +14,14 @@ pub returns-in-Some : goal.returns-in-Some
 returns-in-Some g c = λ game opened.
     let settings = c.args.settings in
     let variant = c.args.variant in
-    let kept : (state_of c.play_rounds.new.engine).game ≡ weighed_game game = c.in-Ok.ensures.game ∙ opened in
+    let kept : c.play_rounds.new.engine.game ≡ weighed_game game = c.in-Ok.ensures.game ∙ opened in
     let form_is : c.form.result.now ≡ form_of_file game =
     c.form.ensures ∙ ap (λ (numbers : WeighedGame). numbers.form) kept in
     let left_is : c.in-Some.outcome.now ≡ outcome_of variant (form_of_file game) (head_with (weighed_game game) settings) =
     same_outcome c.in-Some.outcome.now
-    (outcome_of (variant_of c.args.engine.now) (state_of c.args.engine.now).game.form (head_with (state_of c.args.engine.now).game settings))
-    (c.in-Some.ensures ∙ c.in-Ok.ensures.outcome)
-    ∙ (λ i. outcome_of (c.requires.variant i) (opened i).form (head_with (opened i) settings)) in
+    (outcome_of variant c.args.engine.now.game.form (head_with c.args.engine.now.game settings))
+    (c.in-Some.ensures ∙ c.in-Ok.ensures.left.outcome)
+    ∙ (λ i. outcome_of variant (opened i).form (head_with (opened i) settings)) in
     tells (sink_call g.O.Sink c.args.out.now c.write_paged.new.out)
     (played_text variant game (settings_seen settings)) (outcome_text variant c.form.result.now c.in-Some.outcome.now)
     (played_is variant game settings c.form.result.now c.in-Some.outcome.now form_is left_is)
