@@ -39,7 +39,8 @@ pub ended : (jobs rows stripes number : ℕ) (amount : ℕ → ℕ → ℤ) (bag
     → now.parts ≡ 1 + (65 - made) + made + stripes → now.number ≡ number → IsLoaded number now
     → Gathered jobs rows stripes amount (rights_for bag stripes ++ []) now.rights sums
     → (row : ℕ) → row < rows → slice_index_or sums row (pos 0) ≡ sum_over_jobs amount jobs row
-ended jobs rows stripes number amount bag now sums bag_tickets made pass_tickets jobs_is stripes_is some rule tickets one_left few parts number_is loaded G row below =
+ended jobs rows stripes number amount bag now sums bag_tickets made pass_tickets jobs_is stripes_is some rule tickets one_left few parts number_is loaded G row
+    below =
     G.sums_are row below ∙ replays_to_plain_sum jobs (G.orders (stripe_of stripes row)) legal complete amount row
   where
     all_parts : now.parts ≡ stripes_of number + 66
@@ -63,7 +64,11 @@ ended jobs rows stripes number amount bag now sums bag_tickets made pass_tickets
     is_stripe = mod_below row stripes some
 
     legal : IsLegal jobs (G.orders (stripe_of stripes row))
-    legal = record { once = λ j. (let a = counts j (stripe_of stripes row) in let b = once_at_most number j (stripe_of stripes row) in omega arith); named = G.jobs_named (stripe_of stripes row) }
+    legal =
+        record {
+          once = λ j. (let a = counts j (stripe_of stripes row) in let b = once_at_most number j (stripe_of stripes row) in omega arith);
+          named = G.jobs_named (stripe_of stripes row);
+        }
 
     complete : IsComplete jobs (G.orders (stripe_of stripes row))
     complete j is_job =

@@ -1,9 +1,10 @@
 -- What a stripe adds to what was gathered.
-use Rattle.std.proofs.Common.{◌≡◌, ℕ, ◌+◌, ◌<◌, ◌≤◌, ◌==◌, eqb, cond, Bool, true, false, if◌then◌else◌, List, [], ◌∷◌, ◌++◌, refl, sym, ap, ◌∙◌, arith, ℤ, pos, ◌+ℤ◌}
+use Rattle.std.proofs.Common.{◌≡◌, ℕ, ◌+◌, ◌<◌, ◌≤◌, ◌==◌, eqb, cond, Bool, true, false, if◌then◌else◌, List, [], ◌∷◌, ◌++◌, refl, sym, ap, ◌∙◌, arith, ℤ, pos}
+use Rattle.std.proofs.Common.{◌+ℤ◌}
 use Rattle.std.specs.Prelude.{All, unsigned_abs, slice_index_or}
 use Rattle.std.proofs.lemmas.Bool.Decides.{nat_tests}
 use Rattle.std.proofs.Math.IntN.{+ℤ_idr}
-use Rattle.std.proofs.lemmas.List.Elements.{All-cons, All-head, All-tail}
+use Rattle.std.proofs.lemmas.List.Elements.{All-append}
 use Rattle.std.proofs.lemmas.List.Sums.{sum_by-append}
 use Rattle.def_sums.specs.Sum.{nat_sum_over}
 use Rattle.def_sums.proofs.SumLaws.{sum_over-append}
@@ -24,10 +25,6 @@ tickets_push (x ∷ xs) h = omega (arith, tickets_push xs h)
 
 job_times_append : (j : ℕ) (xs ys : List ℕ) → times j (xs ++ ys) ≡ times j xs + times j ys
 job_times_append j xs ys = sum_by-append (λ (other : ℕ). cond (eqb other j) 1 0) xs ys
-
-All_append : (P : ℕ → Type 0) (xs ys : List ℕ) → All P xs → All P ys → All P (xs ++ ys)
-All_append P [] ys a b = b
-All_append P (x ∷ xs) ys a b = All-cons P x (xs ++ ys) (All-head P x xs a) (All_append P xs ys (All-tail P x xs a) b)
 
 -- what was gathered is legal, since each right is held once
 legal_so_far : (jobs rows stripes number : ℕ) (amount : ℕ → ℕ → ℤ) (start now more : List Right) (sums : List ℤ)
@@ -65,7 +62,7 @@ gather_more jobs rows stripes amount start now sums new h same named adds G = re
 }
   where
     named_at : (s : ℕ) (b : Bool) → All (λ job. job < jobs) (if b then G.orders s ++ h.order else G.orders s)
-    named_at s true = All_append (λ job. job < jobs) (G.orders s) h.order (G.jobs_named s) named
+    named_at s true = All-append (λ job. job < jobs) (G.orders s) h.order (G.jobs_named s) named
     named_at s false = G.jobs_named s
 
     count : (j s : ℕ) (b : Bool) → (h.index == s) ≡ b

@@ -1,5 +1,6 @@
 -- A stripe's totals are added place by place.
-use Rattle.std.proofs.Common.{◌≡◌, ◌≢◌, ℕ, ◌+◌, ◌*◌, ◌<◌, ◌==◌, ◌&&◌, eqb, Bool, true, false, if◌then◌else◌, nat_lt, List, length, get_or, set, refl, sym, ap, ◌∙◌, subst, arith, ℤ, pos, ◌+ℤ◌}
+use Rattle.std.proofs.Common.{◌≡◌, ◌≢◌, ℕ, ◌+◌, ◌*◌, ◌<◌, ◌==◌, ◌&&◌, eqb, Bool, true, false, if◌then◌else◌, nat_lt, List, length, get_or, set, refl, sym, ap}
+use Rattle.std.proofs.Common.{◌∙◌, subst, arith, ℤ, pos, ◌+ℤ◌}
 use Rattle.std.proofs.lemmas.Bool.Decides.{nat_tests}
 use Rattle.std.proofs.lemmas.List.{get_or-set_same, get_or-set_other, length-set}
 use Rattle.std.proofs.Math.IntN.{+ℤ_idr}
@@ -28,7 +29,8 @@ none_added amount h rows = record {
     none : (row : ℕ) → share_below amount h 0 row ≡ pos 0
     none row =
         let no : nat_lt (place_of h.stripes row) 0 ≡ false = grind (arith, nat_tests) in
-        ap (λ t. share (replay amount h.order row) ((stripe_of h.stripes row == h.index) && t)) no ∙ share_none (replay amount h.order row) (stripe_of h.stripes row == h.index)
+        ap (λ t. share (replay amount h.order row) ((stripe_of h.stripes row == h.index) && t)) no
+        ∙ share_none (replay amount h.order row) (stripe_of h.stripes row == h.index)
 
 lt_more : (q p : ℕ) → q ≢ p → nat_lt q p ≡ nat_lt q (p + 1)
 lt_more q p other = grind (arith, nat_tests)
@@ -46,14 +48,16 @@ other_share amount h place row inside other = by_case (stripe_of h.stripes row =
     by_case true e =
         let here : stripe_of h.stripes row ≡ h.index = grind (arith, nat_tests) in
         let there = (each_row_once h.stripes row (omega arith)).there in
-        ap (share (replay amount h.order row)) (lt_more (place_of h.stripes row) place (λ at. other (sym there ∙ ap (λ q. q * h.stripes + stripe_of h.stripes row) at ∙ ap (λ s. place * h.stripes + s) here)))
+        ap (share (replay amount h.order row)) (lt_more (place_of h.stripes row) place
+        (λ at. other (sym there ∙ ap (λ q. q * h.stripes + stripe_of h.stripes row) at ∙ ap (λ s. place * h.stripes + s) here)))
 
 -- the share of the row at a place: nothing before it, and then the replay
 share_before : (amount : ℕ → ℕ → ℤ) (h : StripeHistory) (place row : ℕ) → place_of h.stripes row ≡ place
     → share_below amount h place row ≡ pos 0
 share_before amount h place row at =
     let no : nat_lt (place_of h.stripes row) place ≡ false = grind (arith, nat_tests) in
-    ap (λ t. share (replay amount h.order row) ((stripe_of h.stripes row == h.index) && t)) no ∙ share_none (replay amount h.order row) (stripe_of h.stripes row == h.index)
+    ap (λ t. share (replay amount h.order row) ((stripe_of h.stripes row == h.index) && t)) no
+    ∙ share_none (replay amount h.order row) (stripe_of h.stripes row == h.index)
 
 share_after : (amount : ℕ → ℕ → ℤ) (h : StripeHistory) (places row : ℕ) → stripe_of h.stripes row ≡ h.index
     → place_of h.stripes row < places
@@ -95,8 +99,10 @@ total_added amount h place at old now total inside at_is at_below total_is added
         ap (λ k. get_or (set now at (get_or now at (pos 0) +ℤ total)) k (pos 0)) is
         ∙ get_or-set_same now at (get_or now at (pos 0) +ℤ total) (pos 0) at_below
         ∙ ap (λ k. get_or now k (pos 0) +ℤ total) (sym is)
-        ∙ ap (λ v. v +ℤ total) (added.each row below ∙ ap (λ v. get_or old row (pos 0) +ℤ v) (share_before amount h place row (sym alone.1)) ∙ +ℤ_idr (get_or old row (pos 0)))
-        ∙ ap (λ v. get_or old row (pos 0) +ℤ v) (total_is ∙ ap (replay amount h.order) (sym is) ∙ sym (share_after amount h (place + 1) row (sym alone.0) (let q = alone.1 in omega arith)))
+        ∙ ap (λ v. v +ℤ total) (added.each row below ∙ ap (λ v. get_or old row (pos 0) +ℤ v) (share_before amount h place row (sym alone.1)) ∙ +ℤ_idr
+        (get_or old row (pos 0)))
+        ∙ ap (λ v. get_or old row (pos 0) +ℤ v) (total_is ∙ ap (replay amount h.order) (sym is) ∙ sym
+        (share_after amount h (place + 1) row (sym alone.0) (let q = alone.1 in omega arith)))
 
 -- after the last place all totals are
 pub all_added : (amount : ℕ → ℕ → ℤ) (h : StripeHistory) (places rows : ℕ) (old now : List ℤ) → h.index < h.stripes

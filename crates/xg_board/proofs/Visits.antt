@@ -1,5 +1,6 @@
 -- The stripes that a worker visits.
-use Rattle.std.proofs.Common.{◌≡◌, ◌≢◌, ℕ, ◌+◌, ◌-◌, ◌<◌, ◌≤◌, ◌==◌, ◌&&◌, not, cond, eqb, Bool, true, false, if◌then◌else◌, nat_lt, List, [], ◌∷◌, refl, sym, ap, ◌∙◌, arith}
+use Rattle.std.proofs.Common.{◌≡◌, ◌≢◌, ℕ, ◌+◌, ◌-◌, ◌<◌, ◌≤◌, ◌==◌, ◌&&◌, not, cond, eqb, Bool, true, false, if◌then◌else◌, nat_lt, List, [], ◌∷◌, refl, sym}
+use Rattle.std.proofs.Common.{ap, ◌∙◌, arith}
 use Rattle.std.specs.Prelude.{IsPermutation}
 use Rattle.std.proofs.lemmas.Bool.Decides.{nat_tests}
 use Rattle.def_history.specs.Core.{Right, rights_of, times_right}
@@ -33,7 +34,8 @@ others_left n start i s d apart = grind (arith, nat_tests)
 pub all_left : (job n start : ℕ) (rights : List Right) → IsPermutation (rights_of job n) rights
     → HoldsLeft job n start 0 rights
 all_left job n start rights same j s =
-    sym ((counts_tell_rights.same (rights_of job n) rights).0 same j s) ∙ counts_tell_rights.of_a_job job n j s ∙ ap (λ t. if (job == j) && t then 1 else 0) (from_start s)
+    sym ((counts_tell_rights.same (rights_of job n) rights).0 same j s) ∙ counts_tell_rights.of_a_job job n j s
+    ∙ ap (λ t. if (job == j) && t then 1 else 0) (from_start s)
   where
     from_start : (s : ℕ) → nat_lt s n ≡ is_left n start 0 s
     from_start s = let none : nat_lt (steps_to n start s) 0 ≡ false = grind (arith, nat_tests) in grind (arith, nat_tests)

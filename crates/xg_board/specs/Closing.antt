@@ -1,5 +1,6 @@
 -- What is gathered at the end.
-use Rattle.std.specs.Prelude.{◌≡◌, ℕ, ◌+◌, ◌<◌, ◌==◌, ◌&&◌, if◌then◌else◌, nat_lt, ℤ, pos, ◌+ℤ◌, List, length, All, slice_index_or}
+use Rattle.std.specs.Prelude.{◌≡◌, ℕ, ◌+◌, ◌<◌, ◌==◌, ◌&&◌, if◌then◌else◌, nat_lt, ℤ, pos, ◌+ℤ◌, List, length, All}
+use Rattle.std.specs.Prelude.{slice_index_or}
 use Rattle.def_history.specs.Core.{Right, times_right}
 use Rattle.def_history.specs.History.{place_of, replay, stripe_of, times}
 use Rattle.xg_rowcore.specs.Stripes.{StripeHistory}

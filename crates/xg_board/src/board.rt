@@ -1,5 +1,6 @@
 //! The board of a round: jobs in a bag under a lock, and stripes under a lock each.
-ghost use Rattle.std.specs.Prelude.{◌≡◌, ◌<◌, ◌≤◌, ◌+◌, [], IsPermutation, MatchOption, vec_len, length, ℕ, All, pos, slice_index_or};
+ghost use Rattle.std.specs.Prelude.{◌≡◌, ◌<◌, ◌≤◌, ◌+◌, [], IsPermutation, MatchOption, vec_len, length, ℕ, All, pos};
+ghost use Rattle.std.specs.Prelude.{slice_index_or};
 ghost use Rattle.def_sums.specs.Limits.{most_workers, most_stripes};
 ghost use Rattle.def_history.specs.Core.{rights_of, times_right};
 ghost use Rattle.def_history.specs.History.{sum_over_jobs};

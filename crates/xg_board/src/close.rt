@@ -115,7 +115,8 @@ fn take_stripe<N: RowName>(
 // Adds a stripe's totals to its rows.
 fn add_totals<N: RowName>(rows: &mut Rows, stripe: &Stripe<N>)
     requires count { length (all_rows rows.old) ≡ N.rows }
-    requires small { (row : ℕ) → row < N.rows → unsigned_abs (slice_index_or (all_rows rows.old) row (pos 0)) ≤ most_row }
+    requires small { (row : ℕ) → row < N.rows
+        → unsigned_abs (slice_index_or (all_rows rows.old) row (pos 0)) ≤ most_row }
     ensures added { AddsTotals N.amount stripe.now (all_rows rows.old) (all_rows rows.new) }
     ensures one { length rows.new.one ≡ length rows.old.one }
 {
@@ -132,8 +133,8 @@ fn add_totals<N: RowName>(rows: &mut Rows, stripe: &Stripe<N>)
 fn add_total<N: RowName>(rows: &mut Rows, stripe: &Stripe<N>, place: u32)
     requires place { place < places_in stripe.now.stripes N.rows stripe.now.index }
     requires count { length (all_rows rows.old) ≡ N.rows }
-    requires small { unsigned_abs (slice_index_or (all_rows rows.old) (place * stripe.now.stripes + stripe.now.index) (pos 0))
-        ≤ most_row }
+    requires small { let row = place * stripe.now.stripes + stripe.now.index in
+        unsigned_abs (slice_index_or (all_rows rows.old) row (pos 0)) ≤ most_row }
     ensures rows { all_rows rows.new ≡ slice_set (all_rows rows.old) (place * stripe.now.stripes + stripe.now.index)
         (slice_index_or (all_rows rows.old) (place * stripe.now.stripes + stripe.now.index) (pos 0)
         +ℤ replay N.amount stripe.now.order (place * stripe.now.stripes + stripe.now.index)) }

@@ -83,7 +83,8 @@ fn seated_stripes<N: RowName>(
     requires seat { seat.old.me ≡ (seen [] most_workers (stripes + (most_workers + 1)) (number_met seat.old.me), []) }
     ensures stripes { IfOk result (λ v. vec_len v ≡ stripes) }
     ensures table { IfOk result (λ v. seat.new.table_id ≡ N.table) }
-    ensures seat { IfOk result (λ v. seat.new.me ≡ (seen [] most_workers (most_workers + 1) (number_met seat.old.me), [])) }
+    ensures seat { IfOk result
+        (λ v. seat.new.me ≡ (seen [] most_workers (most_workers + 1) (number_met seat.old.me), [])) }
 {
     let mut locked = Vec::new(alloc);
     for index in 0..stripes {

@@ -28,7 +28,8 @@ impl<N: RowName> Model for Purse<N> {
 
 impl<N: RowName> Purse<N> {
     pub(crate) fn of(seat: RightsSeat) -> Purse<N>
-        requires { (seat.table_id ≡ N.table) × (seat.me ≡ (seen [] most_workers (most_workers + 1) (number_met seat.me), [])) }
+        requires { (seat.table_id ≡ N.table)
+            × (seat.me ≡ (seen [] most_workers (most_workers + 1) (number_met seat.me), [])) }
         ensures { result ≡ record { made = 0; number = number_met seat.me } }
     {
         Purse {

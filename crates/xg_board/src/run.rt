@@ -2,12 +2,12 @@
 ghost use Rattle.std.specs.Prelude.{◌≡◌, ◌<◌, ◌≤◌, ◌+◌, ◌^◌, [], IfOk, IsTrue, All, false, length};
 ghost use Rattle.std.specs.Prelude.{vec_capacity, vec_len};
 ghost use Rattle.def_sums.specs.Limits.{most_workers, most_stripes};
-ghost use Rattle.def_plan.specs.FormRows.{row_count};
+ghost use Rattle.xg_jobs.specs.JobAmounts.{IsRoundOf};
 ghost use Rattle.xg_jobs.specs.Rows.{AreNumbersOf, ArePlainSums};
 ghost use Rattle.xg_jobs.specs.Table.{IsTableOf, most_touched};
 ghost use Rattle.xg_locked.specs.Rights.{number_from};
 ghost use Rattle.xg_board.specs.Holdings.{Holding, tickets_of};
-ghost use Rattle.xg_board.specs.Running.{IsSpent, IsReady, job_amounts};
+ghost use Rattle.xg_board.specs.Running.{IsSpent, IsReady};
 
 use crate::base::Base;
 use crate::board::RowBoard;
@@ -38,11 +38,7 @@ fn add_next<Rt: Threads + Wait + Sync, N: RowName, G: Gate>(
     worker: &mut Worker<N>,
     gate: &G,
 ) -> bool
-    requires numbers { AreNumbersOf input.now.form.now input.now.one.now input.now.two.now }
-    requires table { IsTableOf input.now.form.now jobs.now }
-    requires jobs { length jobs.now.ranges ≡ N.jobs }
-    requires rows { row_count input.now.form.now ≡ N.rows }
-    requires amount { job_amounts input.now.form.now input.now.one.now input.now.two.now jobs.now.ranges ≡ N.amount }
+    requires round { IsRoundOf N.jobs N.rows N.amount input.now jobs.now }
     requires ready { IsReady (number_from board.now.jobs board.now.stripes) (most_touched jobs.now.touched)
         worker.old.pass worker.old.packet.entries }
     ensures more { IsTrue result
@@ -71,11 +67,7 @@ fn work<Rt: Threads + Wait + Sync, N: RowName, G: Gate>(
     worker: &mut Worker<N>,
     gate: &G,
 )
-    requires numbers { AreNumbersOf input.now.form.now input.now.one.now input.now.two.now }
-    requires table { IsTableOf input.now.form.now jobs.now }
-    requires jobs { length jobs.now.ranges ≡ N.jobs }
-    requires rows { row_count input.now.form.now ≡ N.rows }
-    requires amount { job_amounts input.now.form.now input.now.one.now input.now.two.now jobs.now.ranges ≡ N.amount }
+    requires round { IsRoundOf N.jobs N.rows N.amount input.now jobs.now }
     requires ready { IsReady (number_from board.now.jobs board.now.stripes) (most_touched jobs.now.touched)
         worker.old.pass worker.old.packet.entries }
     ensures { IsSpent worker.new.pass }
@@ -97,11 +89,7 @@ fn work_all<Rt: Threads + Wait + Sync, N: RowName + Send + Sync, G: Gate>(
     crew: &mut Vec<Worker<N>>,
     gate: &G,
 )
-    requires numbers { AreNumbersOf input.now.form.now input.now.one.now input.now.two.now }
-    requires table { IsTableOf input.now.form.now jobs.now }
-    requires jobs { length jobs.now.ranges ≡ N.jobs }
-    requires rows { row_count input.now.form.now ≡ N.rows }
-    requires amount { job_amounts input.now.form.now input.now.one.now input.now.two.now jobs.now.ranges ≡ N.amount }
+    requires round { IsRoundOf N.jobs N.rows N.amount input.now jobs.now }
     requires some { 0 < vec_len crew.old }
     requires ready { All (λ w. IsReady (number_from board.now.jobs board.now.stripes) (most_touched jobs.now.touched)
         w.pass w.packet.entries) crew.old.items }
@@ -114,12 +102,7 @@ fn work_all<Rt: Threads + Wait + Sync, N: RowName + Send + Sync, G: Gate>(
         crew.as_mut_slice(),
         count,
         &|_, worker: &mut Worker<N>|
-            requires numbers { AreNumbersOf input.now.form.now input.now.one.now input.now.two.now }
-            requires table { IsTableOf input.now.form.now jobs.now }
-            requires jobs { length jobs.now.ranges ≡ N.jobs }
-            requires rows { row_count input.now.form.now ≡ N.rows }
-            requires amount { job_amounts input.now.form.now input.now.one.now input.now.two.now jobs.now.ranges
-                ≡ N.amount }
+            requires round { IsRoundOf N.jobs N.rows N.amount input.now jobs.now }
             requires ready { IsReady (number_from board.now.jobs board.now.stripes) (most_touched jobs.now.touched)
                 worker.old.pass worker.old.packet.entries }
             ensures { IsSpent worker.new.pass }
@@ -193,11 +176,7 @@ fn run_crew<Rt: Threads + Wait + Sync, N: RowName + Send + Sync, G: Gate>(
     workers: u32,
     gate: &G,
 ) -> Result<Vec<Pass<N>>, AllocError>
-    requires numbers { AreNumbersOf input.now.form.now input.now.one.now input.now.two.now }
-    requires table { IsTableOf input.now.form.now jobs.now }
-    requires jobs { length jobs.now.ranges ≡ N.jobs }
-    requires rows { row_count input.now.form.now ≡ N.rows }
-    requires amount { job_amounts input.now.form.now input.now.one.now input.now.two.now jobs.now.ranges ≡ N.amount }
+    requires round { IsRoundOf N.jobs N.rows N.amount input.now jobs.now }
     requires purse { purse.old ≡ record { made = 0; number = number_from board.now.jobs board.now.stripes } }
     requires workers { (1 ≤ workers) × (workers ≤ most_workers) }
     ensures number { IfOk result (λ passes. purse.new.number ≡ number_from board.now.jobs board.now.stripes) }
@@ -223,11 +202,7 @@ fn run_named<Rt: Threads + Wait + Sync, N: RowName + Send + Sync, G: Gate>(
     workers: u32,
     gate: &G,
 ) -> Result<Rows, AllocError>
-    requires numbers { AreNumbersOf input.now.form.now input.now.one.now input.now.two.now }
-    requires table { IsTableOf input.now.form.now jobs.now }
-    requires jobs { length jobs.now.ranges ≡ N.jobs }
-    requires rows { row_count input.now.form.now ≡ N.rows }
-    requires amount { job_amounts input.now.form.now input.now.one.now input.now.two.now jobs.now.ranges ≡ N.amount }
+    requires round { IsRoundOf N.jobs N.rows N.amount input.now jobs.now }
     requires base { (base.table.shared.table_id ≡ N.table) × (base.jobs ≡ length jobs.now.ranges) }
     requires workers { (1 ≤ workers) × (workers ≤ most_workers) }
     ensures { IfOk result (λ rows. ArePlainSums input.now.form.now input.now.one.now input.now.two.now rows) }

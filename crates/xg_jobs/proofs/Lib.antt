@@ -17,3 +17,7 @@ mod OnePassOverJobs
 mod JobsAfterPasses
 mod Ranging
 pub mod TouchedJobs
+pub mod Crews
+pub mod NewRowsAreZero
+pub mod RoundSums
+pub mod SmallAmountsStay

@@ -8,3 +8,4 @@ pub mod Writing
 pub mod Cutting
 pub mod Entries
 pub mod Merging
+pub mod JobAmounts

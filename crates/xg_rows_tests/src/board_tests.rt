@@ -1,10 +1,9 @@
 //! Workers that add into the rows of small games.
 ghost use Rattle.std.specs.Prelude.{◌≡◌, ◌≤◌, All, IfOk, length};
 ghost use Rattle.std.specs.Thread.{IsSync};
-ghost use Rattle.def_plan.specs.FormRows.{row_count};
+ghost use Rattle.xg_jobs.specs.JobAmounts.{IsRoundOf};
 ghost use Rattle.xg_jobs.specs.Rows.{AreNumbersOf, ArePlainSums};
 ghost use Rattle.xg_jobs.specs.Table.{IsTableOf, most_touched};
-ghost use Rattle.xg_board.specs.Running.{job_amounts};
 
 use crate::games::{KUHN_ONE, KUHN_TWO, KUHN_WEIGHTS, THREE_JOBS, THREE_JOBS_WEIGHTS, put_kuhn};
 use crate::gates::{Counts, Turns};
@@ -33,11 +32,7 @@ fn add_by_one_pass<Rt: Abort + Threads + Wait + Sync, N: RowName, G: Gate>(
     gate: &G,
 ) -> Result<Rows, Fail>
     requires room { most_touched jobs.now.touched ≤ packet.old.entries.room }
-    requires numbers { AreNumbersOf input.now.form.now input.now.one.now input.now.two.now }
-    requires table { IsTableOf input.now.form.now jobs.now }
-    requires jobs { length jobs.now.ranges ≡ N.jobs }
-    requires rows { row_count input.now.form.now ≡ N.rows }
-    requires amount { job_amounts input.now.form.now input.now.one.now input.now.two.now jobs.now.ranges ≡ N.amount }
+    requires round { IsRoundOf N.jobs N.rows N.amount input.now jobs.now }
     requires base { (base.table.shared.table_id ≡ N.table) × (base.jobs ≡ length jobs.now.ranges) }
 {
     let mut passes = Vec::with_capacity(alloc, 1)?;

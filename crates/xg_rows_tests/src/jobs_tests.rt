@@ -167,8 +167,8 @@ const HALF: i64 = 1 << 30;
 const PAST_WORD: i64 = 1 << 27;
 
 // A leaf has the sequences of the one in its place after another deal. The sizes of all weights together are the
-// greatest number of 31 bits, and one and two more. Then what a deal brings, or what some deals bring together, just has
-// room in 64 bits, or just hasn't.
+// greatest number of 31 bits, and one and two more. Then what a deal brings, or what some deals bring together, just
+// has room in 64 bits, or just hasn't.
 static SUMS_AFTER_DEALS: [Summed; 10] = [
     Summed {
         weights: &[0, 0, 0, HALF, 0, 0, 0, HALF - 2, 0, 0, 0, 1],

@@ -7,7 +7,8 @@ use Rattle.xg_words.specs.Running.{IsReadyToClaim}
 use Rattle.def_words.specs.Amounts.{LastIsComplete}
 use Rattle.xg_words.specs.Holdings.{WorkerClaims}
 
-pub claimed_complete : (jobs rows : ℕ) (amount : ℕ → ℕ → ℤ) (worker : WorkerClaims) (n : ℕ) (earlier : List ℕ) → worker.numbers ≡ n ∷ earlier → jobs ≤ n → LastIsComplete jobs rows amount worker.reached worker.numbers
+pub claimed_complete : (jobs rows : ℕ) (amount : ℕ → ℕ → ℤ) (worker : WorkerClaims) (n : ℕ) (earlier : List ℕ) → worker.numbers ≡ n ∷ earlier → jobs ≤ n
+    → LastIsComplete jobs rows amount worker.reached worker.numbers
 claimed_complete jobs rows amount worker n earlier are past m ms is is_job =
     let same : m ≡ n = ap head (sym is ∙ are) in
     absurd (omega (arith, same, past, is_job))
@@ -17,7 +18,8 @@ claimed_complete jobs rows amount worker n earlier are past m ms is is_job =
     head (x ∷ xs) = x
 
 -- a worker that claimed nothing is ready
-pub new_is_ready : (table : TableId) (jobs rows : ℕ) (amount : ℕ → ℕ → ℤ) (room : ℕ) (worker : WorkerClaims) (packet : Listed) → worker.table ≡ table → worker.numbers ≡ [] → room ≡ packet.room → IsReadyToClaim table jobs rows amount room worker packet
+pub new_is_ready : (table : TableId) (jobs rows : ℕ) (amount : ℕ → ℕ → ℤ) (room : ℕ) (worker : WorkerClaims) (packet : Listed) → worker.table ≡ table
+    → worker.numbers ≡ [] → room ≡ packet.room → IsReadyToClaim table jobs rows amount room worker packet
 new_is_ready table jobs rows amount room worker packet here none room_is = record {
   here = here;
   below = subst (All (λ n. n < jobs)) (sym none) (All-nil (λ n. n < jobs));

@@ -4,8 +4,8 @@ use Rattle.atomic_table.specs.Seated.{TableId}
 use Rattle.def_history.specs.Packets.{RowAmount}
 use Rattle.xg_rowcore.specs.Packets.{entry_in}
 
--- the table of a worker, the numbers that it claimed, the last one first, and the row below which the last one's amounts
--- are added
+-- the table of a worker, the numbers that it claimed, the last one first, and the row below which the last one's
+-- amounts are added
 pub record WorkerClaims : Type 0 where
   pub table : TableId
   pub numbers : List ℕ

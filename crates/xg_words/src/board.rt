@@ -1,5 +1,6 @@
 //! The board of a round whose rows are atomic words.
-ghost use Rattle.std.specs.Prelude.{◌≡◌, ℕ, ◌<◌, ◌≤◌, ◌+◌, ◌-◌, ◌*◌, ◌++◌, List, [], ◌∷◌, All, Contains, IfOk, MatchOption};
+ghost use Rattle.std.specs.Prelude.{◌≡◌, ℕ, ◌<◌, ◌≤◌, ◌+◌, ◌-◌, ◌*◌, ◌++◌, List, [], ◌∷◌, All, Contains, IfOk};
+ghost use Rattle.std.specs.Prelude.{MatchOption};
 ghost use Rattle.std.specs.Prelude.{length, pos, slice_index_or};
 ghost use Rattle.def_sums.specs.Limits.{most_workers};
 ghost use Rattle.def_plan.specs.Form.{sequence_count};
@@ -126,8 +127,8 @@ impl<N: RowName> WordBoard<N> {
         join::<N>(&self.table.shared, &mut owner.seat, worker.into_seat());
     }
 
-    /// Closes the board where every worker was joined and some number past the jobs was claimed, and answers at each row
-    /// the sum of all jobs' amounts.
+    /// Closes the board where every worker was joined and some number past the jobs was claimed, and answers at each
+    /// row the sum of all jobs' amounts.
     pub fn close(self, owner: Owner<N>) -> Rows
         requires here { owner.table ≡ self.table.shared.table_id }
         requires all_joined { owner.unjoined ≡ 0 }

@@ -5,8 +5,8 @@ ghost use Rattle.def_words.specs.Amounts.{AreSmall};
 use std::marker::PhantomData;
 use xg_rowcore::RowName;
 
-/// The numbers of jobs and of rows of a name whose amounts are small. It owns no memory, so that a board, which does, can
-/// keep these facts of its name.
+/// The numbers of jobs and of rows of a name whose amounts are small. It owns no memory, so that a board, which does,
+/// can keep these facts of its name.
 #[derive(Drop)]
 pub(crate) struct Counts<N: RowName> {
     pub(crate) jobs: u32,

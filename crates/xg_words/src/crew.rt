@@ -1,10 +1,9 @@
 //! The workers of a round in their threads.
-ghost use Rattle.std.specs.Prelude.{◌≡◌, ◌<◌, ◌≤◌, ◌+◌, ◌-◌, ℕ, [], IfOk, IsTrue, All, Contains, false, length, vec_len};
+ghost use Rattle.std.specs.Prelude.{◌≡◌, ◌<◌, ◌≤◌, ◌+◌, ◌-◌, ℕ, [], IfOk, IsTrue, All, Contains, false, length};
+ghost use Rattle.std.specs.Prelude.{vec_len};
 ghost use Rattle.def_sums.specs.Limits.{most_workers};
-ghost use Rattle.def_plan.specs.FormRows.{row_count};
-ghost use Rattle.xg_jobs.specs.Rows.{AreNumbersOf};
-ghost use Rattle.xg_jobs.specs.Table.{IsTableOf, most_touched};
-ghost use Rattle.xg_board.specs.Running.{job_amounts};
+ghost use Rattle.xg_jobs.specs.JobAmounts.{IsRoundOf};
+ghost use Rattle.xg_jobs.specs.Table.{most_touched};
 ghost use Rattle.xg_words.specs.Running.{IsReadyToClaim, IsDoneClaiming};
 
 use crate::board::WordBoard;
@@ -35,17 +34,15 @@ fn add_next<Rt: Threads + Wait + Sync, N: RowName, G: Gate>(
     member: &mut Member<N>,
     gate: &G,
 ) -> bool
-    requires numbers { AreNumbersOf input.now.form.now input.now.one.now input.now.two.now }
-    requires table { IsTableOf input.now.form.now jobs.now }
-    requires jobs { length jobs.now.ranges ≡ N.jobs }
-    requires rows { row_count input.now.form.now ≡ N.rows }
-    requires amount { job_amounts input.now.form.now input.now.one.now input.now.two.now jobs.now.ranges ≡ N.amount }
-    requires ready { IsReadyToClaim board.now.table.shared.table_id N.jobs N.rows N.amount (most_touched jobs.now.touched)
-        member.old.worker member.old.packet.entries }
+    requires round { IsRoundOf N.jobs N.rows N.amount input.now jobs.now }
+    requires ready { let table = board.now.table.shared.table_id in
+        IsReadyToClaim table N.jobs N.rows N.amount (most_touched jobs.now.touched) member.old.worker
+        member.old.packet.entries }
     ensures more { IsTrue result
         → IsReadyToClaim board.now.table.shared.table_id N.jobs N.rows N.amount (most_touched jobs.now.touched)
         member.new.worker member.new.packet.entries }
-    ensures done { result ≡ false → IsDoneClaiming board.now.table.shared.table_id N.jobs N.rows N.amount member.new.worker }
+    ensures done { result ≡ false
+        → IsDoneClaiming board.now.table.shared.table_id N.jobs N.rows N.amount member.new.worker }
 {
     let Some(job) = board.claim(&mut member.worker) else {
         return false;
@@ -65,13 +62,10 @@ fn work<Rt: Threads + Wait + Sync, N: RowName, G: Gate>(
     member: &mut Member<N>,
     gate: &G,
 )
-    requires numbers { AreNumbersOf input.now.form.now input.now.one.now input.now.two.now }
-    requires table { IsTableOf input.now.form.now jobs.now }
-    requires jobs { length jobs.now.ranges ≡ N.jobs }
-    requires rows { row_count input.now.form.now ≡ N.rows }
-    requires amount { job_amounts input.now.form.now input.now.one.now input.now.two.now jobs.now.ranges ≡ N.amount }
-    requires ready { IsReadyToClaim board.now.table.shared.table_id N.jobs N.rows N.amount (most_touched jobs.now.touched)
-        member.old.worker member.old.packet.entries }
+    requires round { IsRoundOf N.jobs N.rows N.amount input.now jobs.now }
+    requires ready { let table = board.now.table.shared.table_id in
+        IsReadyToClaim table N.jobs N.rows N.amount (most_touched jobs.now.touched) member.old.worker
+        member.old.packet.entries }
     ensures { IsDoneClaiming board.now.table.shared.table_id N.jobs N.rows N.amount member.new.worker }
 {
     for _ in rt.forever() {
@@ -91,15 +85,12 @@ pub(crate) fn work_all<Rt: Threads + Wait + Sync, N: RowName + Send + Sync, G: G
     crew: &mut Vec<Member<N>>,
     gate: &G,
 )
-    requires numbers { AreNumbersOf input.now.form.now input.now.one.now input.now.two.now }
-    requires table { IsTableOf input.now.form.now jobs.now }
-    requires jobs { length jobs.now.ranges ≡ N.jobs }
-    requires rows { row_count input.now.form.now ≡ N.rows }
-    requires amount { job_amounts input.now.form.now input.now.one.now input.now.two.now jobs.now.ranges ≡ N.amount }
+    requires round { IsRoundOf N.jobs N.rows N.amount input.now jobs.now }
     requires some { 0 < vec_len crew.old }
     requires ready { All (λ m. IsReadyToClaim board.now.table.shared.table_id N.jobs N.rows N.amount
         (most_touched jobs.now.touched) m.worker m.packet.entries) crew.old.items }
-    ensures done { All (λ m. IsDoneClaiming board.now.table.shared.table_id N.jobs N.rows N.amount m.worker) crew.new.items }
+    ensures done { let table = board.now.table.shared.table_id in
+        All (λ m. IsDoneClaiming table N.jobs N.rows N.amount m.worker) crew.new.items }
     ensures same { vec_len crew.new ≡ vec_len crew.old }
 {
     let count = crew.len();
@@ -108,12 +99,7 @@ pub(crate) fn work_all<Rt: Threads + Wait + Sync, N: RowName + Send + Sync, G: G
         crew.as_mut_slice(),
         count,
         &|_, member: &mut Member<N>|
-            requires numbers { AreNumbersOf input.now.form.now input.now.one.now input.now.two.now }
-            requires table { IsTableOf input.now.form.now jobs.now }
-            requires jobs { length jobs.now.ranges ≡ N.jobs }
-            requires rows { row_count input.now.form.now ≡ N.rows }
-            requires amount { job_amounts input.now.form.now input.now.one.now input.now.two.now jobs.now.ranges
-                ≡ N.amount }
+            requires round { IsRoundOf N.jobs N.rows N.amount input.now jobs.now }
             requires ready { IsReadyToClaim board.now.table.shared.table_id N.jobs N.rows N.amount
                 (most_touched jobs.now.touched) member.old.worker member.old.packet.entries }
             ensures { IsDoneClaiming board.entry.now.table.shared.table_id N.jobs N.rows N.amount member.new.worker }
@@ -129,14 +115,15 @@ pub(crate) fn make_crew<N: RowName>(
     room: usize,
     count: u32,
 ) -> Result<Vec<Member<N>>, AllocError>
-    requires owner { owner.old ≡ record { table = board.now.table.shared.table_id; numbers = []; made = 0; unjoined = 0 } }
+    requires owner { let table = board.now.table.shared.table_id in
+        owner.old ≡ record { table = table; numbers = []; made = 0; unjoined = 0 } }
     requires few { count ≤ most_workers }
     ensures count { IfOk result (λ crew. length crew.items ≡ count) }
-    ensures ready { IfOk result
-        (λ crew. All (λ m. IsReadyToClaim board.now.table.shared.table_id N.jobs N.rows N.amount room m.worker m.packet.entries)
-        crew.items) }
-    ensures owner { IfOk result
-        (λ crew. owner.new ≡ record { table = board.now.table.shared.table_id; numbers = []; made = count; unjoined = count }) }
+    ensures ready { let table = board.now.table.shared.table_id in
+        IfOk result
+        (λ crew. All (λ m. IsReadyToClaim table N.jobs N.rows N.amount room m.worker m.packet.entries) crew.items) }
+    ensures owner { let table = board.now.table.shared.table_id in
+        IfOk result (λ crew. owner.new ≡ record { table = table; numbers = []; made = count; unjoined = count }) }
 {
     let mut crew = Vec::new(alloc);
     for number in 0..count {
@@ -157,7 +144,8 @@ pub(crate) fn join_all<N: RowName>(board: &WordBoard<N>, owner: &mut Owner<N>, c
     requires owner { owner.old.table ≡ board.now.table.shared.table_id }
     requires unjoined { owner.old.unjoined ≡ length crew.items }
     requires some { 0 < length crew.items }
-    requires done { All (λ m. IsDoneClaiming board.now.table.shared.table_id N.jobs N.rows N.amount m.worker) crew.items }
+    requires done { let table = board.now.table.shared.table_id in
+        All (λ m. IsDoneClaiming table N.jobs N.rows N.amount m.worker) crew.items }
     ensures table { owner.new.table ≡ owner.old.table }
     ensures all_joined { owner.new.unjoined ≡ 0 }
     ensures past { (n : ℕ) × Contains owner.new.numbers n × (N.jobs ≤ n) }

@@ -6,8 +6,8 @@ ghost use Rattle.xg_words.specs.Running.{HasSmallSums};
 
 use xg_jobs::{RowInput, greatest_number, total_mass};
 
-/// Whether the sizes of all weights together, times the greatest number of both players, are below `2^62`, so that the rows
-/// can be words.
+/// Whether the sizes of all weights together, times the greatest number of both players, are below `2^62`, so that the
+/// rows can be words.
 pub fn fits(input: &RowInput<'_>) -> bool
     ensures { IsTrue result ↔ HasSmallSums input.now.form.now input.now.one.now input.now.two.now }
 {

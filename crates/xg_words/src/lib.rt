@@ -1,5 +1,5 @@
-//! Rows as atomic words: workers claim jobs and add what these bring, and wait for nobody. The rows come out the same for
-//! every number of workers and in whatever order they run.
+//! Rows as atomic words: workers claim jobs and add what these bring, and wait for nobody. The rows come out the same
+//! for every number of workers and in whatever order they run.
 #![tactic(auto)]
 
 mod board;

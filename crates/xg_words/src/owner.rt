@@ -7,8 +7,8 @@ use std::marker::{Model, PhantomData};
 use xg_atomic::WordSeat;
 use xg_rowcore::RowName;
 
-/// What the caller of a board's opening holds: the numbers that the joined workers claimed, and how many workers it made
-/// and has not joined yet.
+/// What the caller of a board's opening holds: the numbers that the joined workers claimed, and how many workers it
+/// made and has not joined yet.
 #[derive(Drop)]
 pub struct Owner<N: RowName> {
     pub(crate) seat: WordSeat,

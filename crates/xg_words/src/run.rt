@@ -1,10 +1,9 @@
 //! The run of all workers over the jobs of a round.
-ghost use Rattle.std.specs.Prelude.{◌≡◌, ◌≤◌, IfOk, length};
+ghost use Rattle.std.specs.Prelude.{◌≤◌, IfOk};
 ghost use Rattle.def_sums.specs.Limits.{most_workers};
-ghost use Rattle.def_plan.specs.FormRows.{row_count};
+ghost use Rattle.xg_jobs.specs.JobAmounts.{IsRoundOf};
 ghost use Rattle.xg_jobs.specs.Rows.{AreNumbersOf, ArePlainSums};
 ghost use Rattle.xg_jobs.specs.Table.{IsTableOf};
-ghost use Rattle.xg_board.specs.Running.{job_amounts};
 ghost use Rattle.def_words.specs.Amounts.{HaveRoom};
 ghost use Rattle.xg_words.specs.Running.{HasSmallSums};
 
@@ -27,11 +26,7 @@ fn run_named<Rt: Threads + Wait + Sync, N: RowName + Send + Sync, G: Gate>(
     workers: u32,
     gate: &G,
 ) -> Result<Rows, AllocError>
-    requires numbers { AreNumbersOf input.now.form.now input.now.one.now input.now.two.now }
-    requires table { IsTableOf input.now.form.now jobs.now }
-    requires jobs { length jobs.now.ranges ≡ N.jobs }
-    requires rows { row_count input.now.form.now ≡ N.rows }
-    requires amount { job_amounts input.now.form.now input.now.one.now input.now.two.now jobs.now.ranges ≡ N.amount }
+    requires round { IsRoundOf N.jobs N.rows N.amount input.now jobs.now }
     requires room { HaveRoom N.jobs N.rows N.amount }
     requires workers { (1 ≤ workers) × (workers ≤ most_workers) }
     ensures { IfOk result (λ rows. ArePlainSums input.now.form.now input.now.one.now input.now.two.now rows) }

@@ -1,4 +1,4 @@
-use Rattle.std.proofs.Common.{◌≡◌, ◌<◌, ◌≤◌, ◌+◌, ◌*◌, ◌^◌, length, refl, arith, sym, ◌∙◌, subst}
+use Rattle.std.proofs.Common.{◌≡◌, ℕ, ◌<◌, ◌≤◌, ◌+◌, ◌*◌, ◌^◌, refl, arith, sym, ◌∙◌, subst}
 use Rattle.std.specs.Prelude.{unsigned_abs}
 use Rattle.def_sums.specs.Limits.{most_row}
 use Rattle.def_history.specs.History.{replay}
@@ -9,6 +9,11 @@ use Rattle.xg_board.specs.Closing.{AddsTotalsBelow}
 use Rattle.xg_board.proofs.Totals.{all_added, before_total, none_added, total_added}
 use Rattle.xg_board.proofs.close.add_totals.Goals as goal
 
+-- how many places there are, by what was read of the stripe and the rows
+places_are : {places stripes rows index read_stripes read_rows read_index : ℕ} → places ≡ place_count read_stripes read_rows read_index
+    → read_stripes ≡ stripes → read_rows ≡ rows → read_index ≡ index → places ≡ place_count stripes rows index
+places_are is stripes_are rows_are index_is = is ∙ (λ i. place_count (stripes_are i) (rows_are i) (index_is i))
+
 pub row_count-requires : goal.row_count-requires
 row_count-requires g c = subst (λ n. n < 2 ^ 32) (sym c.requires.count) c.history_is_legal.ensures.rows
 
@@ -17,8 +22,8 @@ loop-place-init g c = record { added = none_added g.N.RowName.amount c.args.stri
 
 pub add_total-requires-clause-place : goal.add_total-requires-clause-place
 add_total-requires-clause-place g c =
-    let h = c.args.stripe.now in
-    let places : c.place_count-places.result ≡ place_count h.stripes g.N.RowName.rows h.index = c.place_count-places.ensures ∙ (λ i. place_count (c.stripes-stripes.ensures i) ((c.row_count.ensures ∙ c.requires.count) i) (c.index-index.ensures i)) in
+    let count = c.row_count.ensures ∙ c.requires.count in
+    let places = places_are c.place_count-places.ensures c.stripes-stripes.ensures count c.index-index.ensures in
     subst (λ n. c.loop-place.place < n) places c.loop-place-test.true
 
 pub add_total-requires-clause-count : goal.add_total-requires-clause-count
@@ -28,27 +33,33 @@ pub add_total-requires-clause-small : goal.add_total-requires-clause-small
 add_total-requires-clause-small g c =
     let h = c.args.stripe.now in
     let row = c.loop-place.place * h.stripes + h.index in
-    let places : c.place_count-places.result ≡ place_count h.stripes g.N.RowName.rows h.index = c.place_count-places.ensures ∙ (λ i. place_count (c.stripes-stripes.ensures i) ((c.row_count.ensures ∙ c.requires.count) i) (c.index-index.ensures i)) in
-    let inside : row < g.N.RowName.rows = row_there _ _ _ _ c.history_is_legal.ensures.index (subst (λ n. c.loop-place.place < n) places c.loop-place-test.true) in
-    let was = before_total g.N.RowName.amount h c.loop-place.place row (all_rows c.args.rows.now) (all_rows c.loop-place.rows) c.history_is_legal.ensures.index refl (subst (λ n. row < n) (sym c.requires.count) inside) c.loop-place.invariant.added in
+    let count = c.row_count.ensures ∙ c.requires.count in
+    let places = places_are c.place_count-places.ensures c.stripes-stripes.ensures count c.index-index.ensures in
+    let inside = row_there _ _ _ _ c.history_is_legal.ensures.index (subst (λ n. c.loop-place.place < n) places c.loop-place-test.true) in
+    let was = before_total g.N.RowName.amount h c.loop-place.place row (all_rows c.args.rows.now) (all_rows c.loop-place.rows)
+    c.history_is_legal.ensures.index refl (subst (λ n. row < n) (sym c.requires.count) inside) c.loop-place.invariant.added in
     subst (λ v. unsigned_abs v ≤ most_row) (sym was) (c.requires.small row inside)
 
 pub loop-place-preserved : goal.loop-place-preserved
 loop-place-preserved g c =
     let h = c.args.stripe.now in
     let row = c.loop-place.place * h.stripes + h.index in
-    let places : c.place_count-places.result ≡ place_count h.stripes g.N.RowName.rows h.index = c.place_count-places.ensures ∙ (λ i. place_count (c.stripes-stripes.ensures i) ((c.row_count.ensures ∙ c.requires.count) i) (c.index-index.ensures i)) in
-    let inside : row < g.N.RowName.rows = row_there _ _ _ _ c.history_is_legal.ensures.index (subst (λ n. c.loop-place.place < n) places c.loop-place-test.true) in
-    let below : row < length (all_rows c.loop-place.rows) = subst (λ n. row < n) (sym c.requires.count ∙ sym c.loop-place.invariant.added.same) inside in
+    let count = c.row_count.ensures ∙ c.requires.count in
+    let places = places_are c.place_count-places.ensures c.stripes-stripes.ensures count c.index-index.ensures in
+    let inside = row_there _ _ _ _ c.history_is_legal.ensures.index (subst (λ n. c.loop-place.place < n) places c.loop-place-test.true) in
+    let below = subst (λ n. row < n) (sym c.requires.count ∙ sym c.loop-place.invariant.added.same) inside in
     record {
       added = subst (AddsTotalsBelow g.N.RowName.amount h (c.loop-place.place + 1) (all_rows c.args.rows.now)) (sym c.add_total.ensures.rows)
-          (total_added g.N.RowName.amount h c.loop-place.place row (all_rows c.args.rows.now) (all_rows c.loop-place.rows) (replay g.N.RowName.amount h.order row) c.history_is_legal.ensures.index refl below refl c.loop-place.invariant.added);
+          (total_added g.N.RowName.amount h c.loop-place.place row (all_rows c.args.rows.now) (all_rows c.loop-place.rows)
+          (replay g.N.RowName.amount h.order row) c.history_is_legal.ensures.index refl below refl c.loop-place.invariant.added);
       one = c.add_total.ensures.one ∙ c.loop-place.invariant.one;
     }
 
 pub returns-clause-added : goal.returns-clause-added
 returns-clause-added g c =
     let h = c.args.stripe.now in
-    let places : c.place_count-places.result ≡ place_count h.stripes g.N.RowName.rows h.index = c.place_count-places.ensures ∙ (λ i. place_count (c.stripes-stripes.ensures i) ((c.row_count.ensures ∙ c.requires.count) i) (c.index-index.ensures i)) in
+    let count = c.row_count.ensures ∙ c.requires.count in
+    let places = places_are c.place_count-places.ensures c.stripes-stripes.ensures count c.index-index.ensures in
     let last : c.loop-place.place ≡ c.place_count-places.result = omega (arith, c.loop-place-test.false, c.loop-place.auto.place-end) in
-    all_added g.N.RowName.amount h c.loop-place.place g.N.RowName.rows (all_rows c.args.rows.now) (all_rows c.loop-place.rows) c.history_is_legal.ensures.index c.requires.count (last ∙ places) c.loop-place.invariant.added
+    all_added g.N.RowName.amount h c.loop-place.place g.N.RowName.rows (all_rows c.args.rows.now) (all_rows c.loop-place.rows) c.history_is_legal.ensures.index
+    c.requires.count (last ∙ places) c.loop-place.invariant.added

@@ -15,6 +15,8 @@ loop-pass-preserved g c =
     let number : was.number ≡ old.number = ap (λ m. m.0.number) i.view in
     let t : was.tickets ≡ old.tickets + tickets_of c.loop-pass.yielded = ap (λ m. m.0.tickets) i.view in
     let p : was.parts ≡ old.parts + length c.loop-pass.yielded = ap (λ m. m.0.parts) i.view in
-    let tickets : was.tickets + c.in-Some.pass.tickets ≡ old.tickets + tickets_of (c.loop-pass.yielded ++ c.in-Some.pass ∷ []) = omega (arith, t, tickets_push c.loop-pass.yielded c.in-Some.pass) in
-    let parts : was.parts + 1 ≡ old.parts + length (c.loop-pass.yielded ++ c.in-Some.pass ∷ []) = omega (arith, p, length-append c.loop-pass.yielded (c.in-Some.pass ∷ [])) in
+    let tickets : was.tickets + c.in-Some.pass.tickets ≡ old.tickets + tickets_of (c.loop-pass.yielded ++ c.in-Some.pass ∷ []) =
+    omega (arith, t, tickets_push c.loop-pass.yielded c.in-Some.pass) in
+    let parts : was.parts + 1 ≡ old.parts + length (c.loop-pass.yielded ++ c.in-Some.pass ∷ []) =
+    omega (arith, p, length-append c.loop-pass.yielded (c.in-Some.pass ∷ [])) in
     record { here = c.take_pass.ensures.table; view = c.take_pass.ensures.view ∙ (λ k. (seen (rights k) (tickets k) (parts k) (number k), [])) }

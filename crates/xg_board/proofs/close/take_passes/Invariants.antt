@@ -7,5 +7,9 @@ abbrev pub invariant-loop-pass : goal.invariant-loop-pass
 invariant-loop-pass g l = record {
   here : l.all.table_id ≡ g.N.RowName.table;
   view : l.all.me
-      ≡ (seen l.initial.all.me.0.rights (l.initial.all.me.0.tickets + tickets_of l.yielded) (l.initial.all.me.0.parts + length l.yielded) l.initial.all.me.0.number, []);
+      ≡ (
+        seen l.initial.all.me.0.rights (l.initial.all.me.0.tickets + tickets_of l.yielded) (l.initial.all.me.0.parts + length l.yielded)
+            l.initial.all.me.0.number,
+        [],
+      );
 }

@@ -6,7 +6,18 @@ use Rattle.xg_board.proofs.close.take_stripes.Goals as goal
 pub loop-stripe-init : goal.loop-stripe-init
 loop-stripe-init g c = record {
   here = c.requires.seat.0;
-  view = (let old : View = c.args.all.now.me.0 in let p : old.parts ≡ old.parts + 0 = omega arith in λ i. (record { rights = old.rights; tickets = old.tickets; parts = p i; number = old.number; met = c.requires.seat.4 i }, c.requires.seat.1 i));
+  view =
+      (let old : View = c.args.all.now.me.0 in let p : old.parts
+      ≡ old.parts + 0 = omega arith in λ i. (
+        record {
+          rights = old.rights;
+          tickets = old.tickets;
+          parts = p i;
+          number = old.number;
+          met = c.requires.seat.4 i;
+        },
+        c.requires.seat.1 i,
+      ));
   gathered = nothing_gathered _ _ _ _ _ _ c.requires.zeros.0 c.requires.zeros.1;
   one = refl;
 }

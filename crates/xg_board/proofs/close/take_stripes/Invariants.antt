@@ -9,6 +9,7 @@ invariant-loop-stripe g l = record {
   here : l.all.table_id ≡ g.N.RowName.table;
   view : l.all.me
       ≡ (seen l.all.me.0.rights l.initial.all.me.0.tickets (l.initial.all.me.0.parts + length l.yielded) l.initial.all.me.0.number, []);
-  gathered : Gathered g.N.RowName.jobs g.N.RowName.rows (stripes_of l.initial.all.me.0.number) g.N.RowName.amount l.initial.all.me.0.rights l.all.me.0.rights (all_rows l.rows);
+  gathered : Gathered g.N.RowName.jobs g.N.RowName.rows (stripes_of l.initial.all.me.0.number) g.N.RowName.amount l.initial.all.me.0.rights l.all.me.0.rights
+      (all_rows l.rows);
   one : length l.rows.one ≡ length l.initial.rows.one;
 }

@@ -20,7 +20,10 @@ two P a b p q = All-cons P a (b ∷ []) p (All-cons P b [] q (All-nil P))
 twofold_packet : (job : ℕ) → IsPacketOf twofold 3 job (first_at job ∷ second_at job ∷ [])
 unfolding first_at second_at
 twofold_packet job = record {
-  rising = (All-cons (λ (later : RowAmount). 1 < later.row) (second_at job) [] (omega arith) (All-nil (λ (later : RowAmount). 1 < later.row)), (All-nil (λ (later : RowAmount). 2 < later.row), tt));
+  rising = (
+    All-cons (λ (later : RowAmount). 1 < later.row) (second_at job) [] (omega arith) (All-nil (λ (later : RowAmount). 1 < later.row)),
+    (All-nil (λ (later : RowAmount). 2 < later.row), tt),
+  );
   are_rows = two (λ entry. entry.row < 3) (first_at job) (second_at job) (omega arith) (omega arith);
   have_amounts = two (λ entry. entry.amount ≡ twofold job entry.row) (first_at job) (second_at job) (ap pos (omega arith)) (ap pos (omega arith));
   nothing_else = rest;
@@ -39,6 +42,8 @@ returns-clause-packet c =
     let none : c.start.new.self.entries.list ≡ [] = ap (λ (l : Listed). l.list) c.start.ensures.entries in
     let first = rw (to_z_pos w128 (c.args.job + 1) (omega (arith, c.requires.job))) at c.push.ensures.entries in
     let second = rw (to_z_pos w128 (2 * (c.args.job + 1)) (omega (arith, c.requires.job))) at c.push-2.ensures.entries in
-    let one : c.push.new.self.entries.list ≡ first_at c.args.job ∷ [] = ap (λ (l : Listed). l.list) first ∙ ap (λ (es : List RowAmount). es ++ first_at c.args.job ∷ []) none in
-    let both : c.push-2.new.self.entries.list ≡ first_at c.args.job ∷ second_at c.args.job ∷ [] = ap (λ (l : Listed). l.list) second ∙ ap (λ (es : List RowAmount). es ++ second_at c.args.job ∷ []) one in
+    let one : c.push.new.self.entries.list ≡ first_at c.args.job ∷ [] =
+    ap (λ (l : Listed). l.list) first ∙ ap (λ (es : List RowAmount). es ++ first_at c.args.job ∷ []) none in
+    let both : c.push-2.new.self.entries.list ≡ first_at c.args.job ∷ second_at c.args.job ∷ [] =
+    ap (λ (l : Listed). l.list) second ∙ ap (λ (es : List RowAmount). es ++ second_at c.args.job ∷ []) one in
     subst (IsPacketOf twofold 3 c.args.job) (sym both) (twofold_packet c.args.job)

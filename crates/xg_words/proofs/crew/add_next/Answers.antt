@@ -9,7 +9,9 @@ returns-in_default-clause-done g c = λ _.
     let was = c.args.member.now.worker in
     record {
       here = ap (λ (w : WorkerClaims). w.table) e.1 ∙ c.requires.ready.here;
-      complete = claimed_complete g.N.RowName.jobs g.N.RowName.rows g.N.RowName.amount c.claim.new.worker e.0 was.numbers (ap (λ (w : WorkerClaims). w.numbers) e.1) e.2;
+      complete =
+          claimed_complete g.N.RowName.jobs g.N.RowName.rows g.N.RowName.amount c.claim.new.worker e.0 was.numbers (ap (λ (w : WorkerClaims). w.numbers) e.1)
+          e.2;
       last = e.0;
       earlier = was.numbers;
       numbers_are = ap (λ (w : WorkerClaims). w.numbers) e.1;
@@ -18,5 +20,8 @@ returns-in_default-clause-done g c = λ _.
 
 pub add-requires-clause-last : goal.add-requires-clause-last
 add-requires-clause-last g c =
-    let e = c.in-Some.ensures in
-    (c.args.member.now.worker.numbers, ap (λ (w : WorkerClaims). w.numbers) e.1 ∙ ap (λ (n : ℕ). n ∷ c.args.member.now.worker.numbers) (sym (c.packet_into.ensures.job ∙ e.2.0)))
+    let e = c.in-Some.ensures in (
+      c.args.member.now.worker.numbers,
+      ap (λ (w : WorkerClaims). w.numbers) e.1
+          ∙ ap (λ (n : ℕ). n ∷ c.args.member.now.worker.numbers) (sym (c.packet_into.ensures.job ∙ e.2.0)),
+    )

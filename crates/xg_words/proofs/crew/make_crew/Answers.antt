@@ -13,7 +13,9 @@ loop-number-preserved g c =
     let owner = c.loop-number.invariant.owner_is in
     let worker = c.worker-worker.ensures.worker in
     let ready : IsReadyToClaim table g.N.RowName.jobs g.N.RowName.rows g.N.RowName.amount c.args.room c.worker-worker.result c.in_ok-packet.packet.entries =
-    new_is_ready table g.N.RowName.jobs g.N.RowName.rows g.N.RowName.amount c.args.room c.worker-worker.result c.in_ok-packet.packet.entries (ap (λ (w : WorkerClaims). w.table) worker ∙ ap (λ (o : OwnerClaims). o.table) owner) (ap (λ (w : WorkerClaims). w.numbers) worker) (omega (arith, c.in_ok-packet.ensures.room)) in
+    new_is_ready table g.N.RowName.jobs g.N.RowName.rows g.N.RowName.amount c.args.room c.worker-worker.result c.in_ok-packet.packet.entries
+    (ap (λ (w : WorkerClaims). w.table) worker ∙ ap (λ (o : OwnerClaims). o.table) owner) (ap (λ (w : WorkerClaims). w.numbers) worker)
+    (omega (arith, c.in_ok-packet.ensures.room)) in
     record {
       len =
           let count = length-append crew (record { number = c.loop-number.number; worker = c.worker-worker.result; packet = c.in_ok-packet.packet } ∷ []) in
@@ -22,5 +24,11 @@ loop-number-preserved g c =
           rw items
           (All-push (λ m. IsReadyToClaim table g.N.RowName.jobs g.N.RowName.rows g.N.RowName.amount c.args.room m.worker m.packet.entries) crew
           (record { number = c.loop-number.number; worker = c.worker-worker.result; packet = c.in_ok-packet.packet }) c.loop-number.invariant.ready ready);
-      owner_is = c.worker-worker.ensures.owner ∙ ap (λ (o : OwnerClaims). record { table = o.table; numbers = o.numbers; made = o.made + 1; unjoined = o.unjoined + 1 }) owner;
+      owner_is =
+          c.worker-worker.ensures.owner ∙ ap (λ (o : OwnerClaims). record {
+            table = o.table;
+            numbers = o.numbers;
+            made = o.made + 1;
+            unjoined = o.unjoined + 1;
+          }) owner;
     }

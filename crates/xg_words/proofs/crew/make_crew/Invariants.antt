@@ -5,6 +5,7 @@ use Rattle.xg_words.proofs.crew.make_crew.Given as goal
 abbrev pub invariant-loop-number : goal.invariant-loop-number
 invariant-loop-number g l = record {
   len : length l.crew.items ≡ l.number;
-  ready : All (λ m. IsReadyToClaim l.board.table.shared.table_id g.N.RowName.jobs g.N.RowName.rows g.N.RowName.amount l.room m.worker m.packet.entries) l.crew.items;
+  ready : All (λ m. IsReadyToClaim l.board.table.shared.table_id g.N.RowName.jobs g.N.RowName.rows g.N.RowName.amount l.room m.worker m.packet.entries)
+      l.crew.items;
   owner_is : l.owner ≡ record { table = l.board.table.shared.table_id; numbers = []; made = l.number; unjoined = l.number };
 }

@@ -1,10 +1,8 @@
-use Rattle.std.proofs.Common.{◌<◌, sym, ◌∙◌, subst}
-use Rattle.def_history.specs.History.{sum_over_jobs}
-use Rattle.xg_board.proofs.PlainRows.{plain_sums}
+use Rattle.std.proofs.Common.{◌∙◌}
+use Rattle.xg_jobs.proofs.RoundSums.{plain_sums}
 use Rattle.xg_words.proofs.run.run_named.Goals as goal
 
 pub returns : goal.returns
 returns g c =
-    plain_sums c.args.input.now.form.now c.args.input.now.one.now c.args.input.now.two.now c.args.jobs.now c.close.result c.requires.table
-    (c.close.ensures.one ∙ c.in_ok-board.ensures.one) (c.close.ensures.count ∙ sym c.requires.rows)
-    (λ row below. c.close.ensures.sums row (subst (λ n. row < n) c.requires.rows below) ∙ (λ i. sum_over_jobs (sym c.requires.amount i) (sym c.requires.jobs i) row))
+    plain_sums c.args.input.now c.args.jobs.now c.close.result c.requires.round (c.close.ensures.one ∙ c.in_ok-board.ensures.one)
+    c.close.ensures.count c.close.ensures.sums

@@ -1,18 +1,18 @@
 use Rattle.std.proofs.Common.{length, subst}
 use Rattle.def_plan.specs.FormRows.{row_count}
-use Rattle.xg_board.proofs.SmallAmountsStay.{amounts_stay}
 use Rattle.def_words.specs.Amounts.{HaveRoom}
+use Rattle.xg_jobs.proofs.SmallAmountsStay.{round_of}
 use Rattle.xg_words.proofs.Small.{small_amounts}
 use Rattle.xg_words.proofs.run.run_words.Goals as goal
 
-pub run_named-requires-clause-amount : goal.run_named-requires-clause-amount
-run_named-requires-clause-amount g c κs within =
-    amounts_stay c.args.input.now.form.now c.args.input.now.one.now c.args.input.now.two.now c.args.jobs.now c.requires.numbers c.requires.table c.facts.ensures.mass
+pub run_named-requires-clause-round : goal.run_named-requires-clause-round
+run_named-requires-clause-round g c κs within =
+    round_of c.args.input.now c.args.jobs.now c.requires.numbers c.requires.table c.facts.ensures.mass
 
 pub run_named-requires-clause-room : goal.run_named-requires-clause-room
 run_named-requires-clause-room g c κs within =
     let form = c.args.input.now.form.now in
     let jobs = c.args.jobs.now in
-    let stay = amounts_stay form c.args.input.now.one.now c.args.input.now.two.now jobs c.requires.numbers c.requires.table c.facts.ensures.mass in
-    subst (HaveRoom (length jobs.ranges) (row_count form)) stay
+    let round = round_of c.args.input.now jobs c.requires.numbers c.requires.table c.facts.ensures.mass in
+    subst (HaveRoom (length jobs.ranges) (row_count form)) round.amount_is
     (small_amounts form c.args.input.now.one.now c.args.input.now.two.now jobs c.requires.table c.requires.fits)

@@ -20,12 +20,14 @@ loop-i-init g c =
 
 pub add_at-seat-requires-clause-right : goal.add_at-seat-requires-clause-right
 add_at-seat-requires-clause-right g c κs within =
-    let start : c.pass.inside.worker % c.args.self.now.stripes < c.args.self.now.stripes = mod_below c.pass.inside.worker c.args.self.now.stripes c.args.self.now.kept.some in
+    let start : c.pass.inside.worker % c.args.self.now.stripes < c.args.self.now.stripes =
+    mod_below c.pass.inside.worker c.args.self.now.stripes c.args.self.now.kept.some in
     holds_next _ _ _ _ _ c.loop-i.seat.me.0.rights start c.visited-stripe.ensures.0 c.visited-stripe.ensures.1 c.loop-i.invariant.held
 
 pub loop-i-preserved : goal.loop-i-preserved
 loop-i-preserved g c =
-    let start : c.pass.inside.worker % c.args.self.now.stripes < c.args.self.now.stripes = mod_below c.pass.inside.worker c.args.self.now.stripes c.args.self.now.kept.some in
+    let start : c.pass.inside.worker % c.args.self.now.stripes < c.args.self.now.stripes =
+    mod_below c.pass.inside.worker c.args.self.now.stripes c.args.self.now.kept.some in
     let e = c.add_at-seat.ensures in
     let i = c.loop-i.invariant in
     let was : View = c.loop-i.seat.me.0 in
@@ -42,5 +44,6 @@ loop-i-preserved g c =
 
 pub returns-clause-given_up : goal.returns-clause-given_up
 returns-clause-given_up g c =
-    let start : c.pass.inside.worker % c.args.self.now.stripes < c.args.self.now.stripes = mod_below c.pass.inside.worker c.args.self.now.stripes c.args.self.now.kept.some in
+    let start : c.pass.inside.worker % c.args.self.now.stripes < c.args.self.now.stripes =
+    mod_below c.pass.inside.worker c.args.self.now.stripes c.args.self.now.kept.some in
     ap (λ vs. (view_of vs).rights) c.into_badge.ensures.2 ∙ none_left _ _ _ _ _ start c.loop-i-test.false c.loop-i.invariant.held

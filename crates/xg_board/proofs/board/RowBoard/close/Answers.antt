@@ -40,14 +40,20 @@ returns-clause-sums g c = λ row below.
     let w_parts : w.parts ≡ q.parts + vec_len board.locked = ap (λ t. t.0.parts) c.take_stripes.ensures.view in
     let w_number : w.number ≡ q.number = ap (λ t. t.0.number) c.take_stripes.ensures.view in
     let number : w.number ≡ b.number = w_number ∙ q_number ∙ m_number in
-    let purse_number : b.number ≡ number_from board.jobs board.stripes = sym (ap (λ (v : View). v.number) o_is) ∙ c.meet.ensures.numbers ∙ p_number ∙ c.requires.number in
+    let purse_number : b.number ≡ number_from board.jobs board.stripes =
+    sym (ap (λ (v : View). v.number) o_is) ∙ c.meet.ensures.numbers ∙ p_number ∙ c.requires.number in
     let n_is : n ≡ board.stripes = omega (arith, purse_number, board.kept.few) in
     let some : 0 < n = omega (arith, n_is, board.kept.some) in
     let start : q.rights ≡ rights_for bag.jobs.items n ++ [] = q_rights ∙ m_rights ∙ (λ i. b_rights i ++ p_rights i) in
-    let gathered = subst (λ (k : ℕ). Gathered g.N.RowName.jobs g.N.RowName.rows (stripes_of k) g.N.RowName.amount q.rights w.rights (all_rows c.take_stripes.new.rows)) (q_number ∙ m_number) c.take_stripes.ensures.gathered in
-    let gathered' = subst (λ (rs : List Right). Gathered g.N.RowName.jobs g.N.RowName.rows n g.N.RowName.amount rs w.rights (all_rows c.take_stripes.new.rows)) start gathered in
+    let gathered =
+    subst (λ (k : ℕ). Gathered g.N.RowName.jobs g.N.RowName.rows (stripes_of k) g.N.RowName.amount q.rights w.rights (all_rows c.take_stripes.new.rows))
+    (q_number ∙ m_number) c.take_stripes.ensures.gathered in
+    let gathered' =
+    subst (λ (rs : List Right). Gathered g.N.RowName.jobs g.N.RowName.rows n g.N.RowName.amount rs w.rights (all_rows c.take_stripes.new.rows)) start
+    gathered in
     let loaded : IsLoaded b.number w = subst (λ (k : ℕ). IsLoaded k w) (sym c.load.ensures.loaded.number_is.0 ∙ number) c.load.ensures.loaded in
-    ended g.N.RowName.jobs g.N.RowName.rows n b.number g.N.RowName.amount bag.jobs.items w (all_rows c.take_stripes.new.rows) b.tickets made (tickets_of c.args.passes.items)
+    ended g.N.RowName.jobs g.N.RowName.rows n b.number g.N.RowName.amount bag.jobs.items w (all_rows c.take_stripes.new.rows) b.tickets made
+    (tickets_of c.args.passes.items)
     bag.kept.jobs_is refl some bag.kept.ticket
     (omega (arith, w_tickets, q_tickets, m_tickets, p_tickets))
     c.requires.one_spent

@@ -1,6 +1,6 @@
 use Rattle.std.proofs.Common.{◌<◌, ◌∙◌, subst}
 use Rattle.atomic_table.specs.Seated.{TableId}
-use Rattle.xg_board.proofs.NewRowsAreZero.{fresh_count, fresh_zeros}
+use Rattle.xg_jobs.proofs.NewRowsAreZero.{fresh_count, fresh_zeros}
 use Rattle.xg_board.proofs.board.RowBoard.open.Goals as goal
 
 pub invariant_of-board : goal.invariant_of-board

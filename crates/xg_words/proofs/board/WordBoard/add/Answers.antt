@@ -17,4 +17,5 @@ returns-clause-complete g c =
     let entries = c.args.packet.now.entries.list in
     let all : c.loop-i.i ≡ length entries = omega (arith, c.loop-i-test.false, c.len-i-end.ensures, c.loop-i.auto.i-end) in
     let left = subst (λ i. AreLeft g.N.RowName.amount g.N.RowName.rows c.args.packet.now.job entries i c.loop-i.worker.reached) all c.loop-i.invariant.left in
-    left_end g.N.RowName.jobs g.N.RowName.amount g.N.RowName.rows c.args.packet.now.job entries c.loop-i.worker.reached c.loop-i.worker.numbers c.requires.last.0 left (c.loop-i.invariant.numbers ∙ c.requires.last.1)
+    left_end g.N.RowName.jobs g.N.RowName.amount g.N.RowName.rows c.args.packet.now.job entries c.loop-i.worker.reached c.loop-i.worker.numbers
+    c.requires.last.0 left (c.loop-i.invariant.numbers ∙ c.requires.last.1)

@@ -18,8 +18,10 @@ loop-row-preserved g c =
     let fits : SFits w128 c.total.result = record { sfits = c.total.type_inv } in
     let same : to_z w128 (of_z w128 c.total.result) ≡ c.total.result = to_z-of_z w128 _ fits in
     let below : row < g.N.RowName.rows = omega (arith, c.loop-row-test.true, c.args.self.counts.rows_are) in
-    let sum : c.total.result ≡ sum_over_jobs g.N.RowName.amount g.N.RowName.jobs row = (let t = c.total.ensures in let s = c.close-closed.ensures.sums row below in omega (arith, ints, t, s)) in
-    let put : all_rows c.put.new.self ≡ slice_set before row (sum_over_jobs g.N.RowName.amount g.N.RowName.jobs row) = c.put.ensures.rows ∙ ap (slice_set before row) (same ∙ sum) in
+    let sum : c.total.result ≡ sum_over_jobs g.N.RowName.amount g.N.RowName.jobs row =
+    (let t = c.total.ensures in let s = c.close-closed.ensures.sums row below in omega (arith, ints, t, s)) in
+    let put : all_rows c.put.new.self ≡ slice_set before row (sum_over_jobs g.N.RowName.amount g.N.RowName.jobs row) =
+    c.put.ensures.rows ∙ ap (slice_set before row) (same ∙ sum) in
     record {
       one = c.put.ensures.count ∙ c.loop-row.invariant.one;
       count = ap length put ∙ length-set before row _ ∙ c.loop-row.invariant.count;
@@ -27,7 +29,8 @@ loop-row-preserved g c =
           ap (λ xs. slice_index_or xs r (pos 0)) put
           ∙ elim (cases_eq r row) [
             | inl here ↦
-                (subst (λ k. slice_index_or (slice_set before row (sum_over_jobs g.N.RowName.amount g.N.RowName.jobs row)) k (pos 0) ≡ sum_over_jobs g.N.RowName.amount g.N.RowName.jobs k) (sym here)
+                (subst (λ k. slice_index_or (slice_set before row (sum_over_jobs g.N.RowName.amount g.N.RowName.jobs row)) k (pos 0)
+                ≡ sum_over_jobs g.N.RowName.amount g.N.RowName.jobs k) (sym here)
                 (get_or-set_same before row _ (pos 0) (omega (arith, below, c.loop-row.invariant.count))))
             | inr other ↦ (get_or-set_other before row r _ (pos 0) other ∙ c.loop-row.invariant.sums r (omega (arith, r_below, other)))
           ];

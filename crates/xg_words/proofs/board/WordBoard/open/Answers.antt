@@ -1,6 +1,6 @@
 use Rattle.std.proofs.Common.{◌≡◌, ◌+◌, ◌*◌, length, arith, ap, sym, ◌∙◌}
 use Rattle.std.proofs.lemmas.List.{length-replicate}
-use Rattle.xg_board.proofs.NewRowsAreZero.{fresh_count}
+use Rattle.xg_jobs.proofs.NewRowsAreZero.{fresh_count}
 use Rattle.xg_words.proofs.board.WordBoard.open.Goals as goal
 
 pub of-requires-clause-small : goal.of-requires-clause-small
@@ -9,7 +9,8 @@ of-requires-clause-small g c = record { few = omega (arith, c.count.ensures.coun
 pub invariant_of-board : goal.invariant_of-board
 invariant_of-board g c =
     let counted : c.of.result.rows ≡ c.sequence_count-one.result + c.sequence_count-two.result = c.of.ensures.1 in
-    let rows : c.sequence_count-one.result + c.sequence_count-two.result ≡ g.N.RowName.rows = (λ i. c.sequence_count-one.ensures.count i + c.sequence_count-two.ensures.count i) ∙ c.requires.rows in
+    let rows : c.sequence_count-one.result + c.sequence_count-two.result ≡ g.N.RowName.rows =
+    (λ i. c.sequence_count-one.ensures.count i + c.sequence_count-two.ensures.count i) ∙ c.requires.rows in
     record {
       slots_are = c.in_ok-table.ensures.table.1;
       words_are = c.in_ok-table.ensures.table.0 ∙ (λ i. 2 * sym (counted ∙ rows) i + 1);
