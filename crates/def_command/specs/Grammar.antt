@@ -11,21 +11,12 @@ use Rattle.std.specs.Prelude.{option_and_then}
 use Rattle.def_sums.specs.Limits.{least_cards, most_cards}
 use Rattle.def_fraction.specs.Digits.{is_numeral, number_of}
 use Rattle.def_command.specs.Words.{is_option, is_word}
+pub use Rattle.def_command.specs.declared.RowSettings.{RowSettings}
+pub use Rattle.def_command.specs.declared.Settings.{Settings}
 use Rattle.def_command.specs.Table as table
 use Rattle.def_command.specs.Table.{CommandName, OptionName, Rounds, Every, Scale, Workers, Atomic, built_commands}
 use Rattle.def_command.specs.Table.{built_options, command_word, least_plain, most_plain, takes, option_name}
 use Rattle.def_command.specs.Table.{least_number, most_number, default_number}
-
--- how many rounds are played, after how many of them the plans are evaluated, and the scale of a plan
-pub record Settings : Type 0 where
-  pub rounds : ℕ
-  pub every : ℕ
-  pub scale : ℕ
-
--- how many workers add into the rows, where a number is given, and whether they add without locks
-pub record RowSettings : Type 0 where
-  pub workers : Option ℕ
-  pub atomic : Bool
 
 -- the number of workers is that of the words, where they give one
 pub data Command : Type 0 where

@@ -7,7 +7,7 @@ use Rattle.std.proofs.lemmas.Grind.{get_or-set_at}
 use Rattle.std.proofs.lemmas.List.{get_or-set_other, length-reverse, length-set, reverse-append}
 use Rattle.std.proofs.lemmas.List.FromFn.{length-range_with_len}
 use Rattle.std.proofs.lemmas.Nat.{mod_below}
-use Rattle.xg_engine.specs.declared.settings.Settings.{Settings}
+use Rattle.def_command.specs.declared.Settings.{Settings}
 use Rattle.xg_batch.specs.Items.{AreItemsOf, IsItemOf, batch_entry_seen}
 use Rattle.xg_batch.specs.Shares.{AreItemsAt, HasItemsFrom, HaveShares, HaveSharesBelow, HoldsShare, IsItemAt}
 use Rattle.xg_batch.proofs.ItemsInOrder.{holds_less, holds_same_less, holds_some}

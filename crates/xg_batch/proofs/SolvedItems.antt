@@ -14,7 +14,7 @@ use Rattle.xg_game.specs.Refusals.{Answers}
 use Rattle.xg_game.specs.declared.fault.Refused.{Refused as Unread}
 use Rattle.xg_game.specs.declared.fault.Refused.TheVariants.{File, NoMemory}
 use Rattle.xg_engine.specs.State.{EngineState}
-use Rattle.xg_engine.specs.declared.settings.Settings.{Settings}
+use Rattle.def_command.specs.declared.Settings.{Settings}
 use Rattle.xg_batch.specs.Items.{IsItemOf, IsItemOfGame, IsPlayedItem, IsPlayedEngine, IsRefusedItem}
 use Rattle.xg_batch.specs.declared.item.Item.{Item}
 use Rattle.xg_batch.specs.declared.item.Item.TheVariants.{Solved, Refused}

@@ -14,7 +14,7 @@ use Rattle.xg_cert.specs.Writable.{IsOutcomeOf}
 use Rattle.xg_game.specs.declared.fault.Refused.{Refused as Unread}
 use Rattle.xg_game.specs.declared.fault.Refused.TheVariants.{File, NoMemory}
 use Rattle.xg_engine.specs.State.{EngineState, head_with}
-use Rattle.xg_engine.specs.declared.settings.Settings.{Settings}
+use Rattle.def_command.specs.declared.Settings.{Settings}
 use Rattle.xg_batch.specs.declared.entry.Entry.{Entry}
 use Rattle.xg_batch.specs.declared.entry.Entry.TheVariants.{Bytes, TooLong}
 use Rattle.xg_batch.specs.declared.item.Item.{Item}

@@ -8,7 +8,7 @@ use Rattle.def_file.specs.Reading.{most_bytes}
 use Rattle.def_sums.specs.Limits.{most_workers}
 use Rattle.def_command.specs.Table.{most_files}
 use Rattle.xg_engine.specs.State.{AreWithinLimits}
-use Rattle.xg_engine.specs.declared.settings.Settings.{Settings}
+use Rattle.def_command.specs.declared.Settings.{Settings}
 use Rattle.xg_batch.specs.Items.{HasAtMost, IsItemOf, batch_entry_seen}
 use Rattle.xg_batch.specs.declared.entry.Entry.{Entry}
 use Rattle.xg_batch.specs.declared.item.Item.{Item}

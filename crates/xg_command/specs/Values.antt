@@ -2,8 +2,6 @@
 use Rattle.std.specs.Prelude.{Option, None, option_map}
 use Rattle.def_command.specs.Table as table
 use Rattle.def_command.specs.Grammar as grammar
-use Rattle.xg_command.specs.declared.command.WordSettings.{WordSettings}
-use Rattle.xg_command.specs.declared.command.RowWords.{RowWords}
 use Rattle.xg_command.specs.declared.command.Command.{Command}
 use Rattle.xg_command.specs.declared.command.Command.TheVariants.{Solve, Check, Upgrade, Info, Gen, Drill, Plus, Batch}
 use Rattle.xg_command.specs.declared.options.Options.{Options}
@@ -11,21 +9,15 @@ use Rattle.xg_command.specs.declared.reading.WordsRead.{WordsRead}
 use Rattle.xg_command.specs.Names.{option_value}
 use Rattle.xg_command.specs.Plain.{plain_value}
 
-abbrev pub settings_value : WordSettings → grammar.Settings
-settings_value s = record { rounds = s.rounds; every = s.every; scale = s.scale }
-
-abbrev pub rows_value : RowWords → grammar.RowSettings
-rows_value r = record { workers = r.workers; atomic = r.atomic }
-
 abbrev pub command_value : Command → grammar.Command
-command_value (Solve file settings rows) = grammar.Solve file.now (settings_value settings) (rows_value rows)
+command_value (Solve file settings rows) = grammar.Solve file.now settings rows
 command_value (Check file certificate) = grammar.Check file.now certificate.now
 command_value (Upgrade file certificate) = grammar.Upgrade file.now certificate.now
 command_value (Info file) = grammar.Info file.now
 command_value (Gen cards) = grammar.Gen cards
-command_value (Drill cards settings rows) = grammar.Drill cards (settings_value settings) (rows_value rows)
-command_value (Plus file settings rows) = grammar.Plus file.now (settings_value settings) (rows_value rows)
-command_value (Batch files settings workers) = grammar.Batch (plain_value files) (settings_value settings) workers
+command_value (Drill cards settings rows) = grammar.Drill cards settings rows
+command_value (Plus file settings rows) = grammar.Plus file.now settings rows
+command_value (Batch files settings workers) = grammar.Batch (plain_value files) settings workers
 
 abbrev pub no_numbers : grammar.NumbersSoFar
 no_numbers = record { rounds = None; every = None; scale = None; workers = None; atomic = None }

@@ -8,6 +8,7 @@ mod plain;
 mod reading;
 mod words;
 
-pub use command::{Command, RowWords, WordSettings};
+pub use command::Command;
+pub use def_command::{RowSettings, Settings};
 pub use plain::PlainWords;
 pub use words::Words;

@@ -4,10 +4,10 @@ ghost use Rattle.def_sums.specs.Limits.{least_cards, most_cards};
 ghost use Rattle.def_command.specs.Table.{least_number, most_number};
 ghost use Rattle.def_command.specs.Grammar.{number_from_to, number_so_far, with_number, settings_in, rows_in};
 ghost use Rattle.xg_command.specs.Names.{name_value, option_value};
-ghost use Rattle.xg_command.specs.Values.{numbers_value, no_numbers, rows_value, settings_value};
+ghost use Rattle.xg_command.specs.Values.{numbers_value, no_numbers};
 
-use crate::command::{RowWords, WordSettings};
 use crate::names::{CommandName, OptionName};
+use def_command::{RowSettings, Settings};
 use def_sums::{LEAST_CARDS, MOST_CARDS};
 use xg_frac::read_whole;
 
@@ -79,11 +79,11 @@ impl Options {
 
     /// The settings, with the command's usual number for each option that isn't given. With none for `--every` the
     /// plans are evaluated once, after the last round.
-    pub(crate) fn settings(self, command: CommandName) -> WordSettings
-        ensures { settings_value result ≡ settings_in (name_value command) (numbers_value self) }
+    pub(crate) fn settings(self, command: CommandName) -> Settings
+        ensures { result ≡ settings_in (name_value command) (numbers_value self) }
     {
         let rounds = self.rounds.unwrap_or(DEFAULT_ROUNDS);
-        WordSettings {
+        Settings {
             rounds,
             every: self.every.unwrap_or(if rounds == 0 { 1 } else { rounds }),
             scale: self.scale.unwrap_or(command.default_scale()),
@@ -98,10 +98,10 @@ impl Options {
     }
 
     /// The rows as they are asked for. With none for `--atomic` they have locks, whatever the command.
-    pub(crate) fn rows(self, _command: CommandName) -> RowWords
-        ensures { rows_value result ≡ rows_in (name_value _command) (numbers_value self) }
+    pub(crate) fn rows(self, _command: CommandName) -> RowSettings
+        ensures { result ≡ rows_in (name_value _command) (numbers_value self) }
     {
-        RowWords {
+        RowSettings {
             workers: self.workers,
             atomic: self.atomic.unwrap_or(0) == 1,
         }

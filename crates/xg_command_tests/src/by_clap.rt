@@ -5,7 +5,7 @@ use clap::{Arg, ArgAction, ArgMatches, value_parser};
 use std::alloc::{AllocError, Global};
 use std::process::Abort;
 use std::test::Fail;
-use xg_command::{Command, RowWords, WordSettings};
+use xg_command::{Command, RowSettings, Settings};
 
 fn numbered<'a>(alloc: Global, name: &'a str, least: i64, most: i64) -> Arg<'a> {
     Arg::new(alloc, name)
@@ -107,17 +107,17 @@ fn number<'a>(given: &ArgMatches<'a>, name: &str, otherwise: u32) -> u32 {
     given.get_one::<u32>(name).unwrap_or(otherwise)
 }
 
-fn settings_of<'a>(given: &ArgMatches<'a>, scale: u32) -> WordSettings {
+fn settings_of<'a>(given: &ArgMatches<'a>, scale: u32) -> Settings {
     let rounds = number(given, "rounds", 1000);
-    WordSettings {
+    Settings {
         rounds,
         every: number(given, "every", rounds.max(1)),
         scale: number(given, "scale", scale),
     }
 }
 
-fn rows_of<'a>(given: &ArgMatches<'a>) -> RowWords {
-    RowWords {
+fn rows_of<'a>(given: &ArgMatches<'a>) -> RowSettings {
+    RowSettings {
         workers: given.get_one::<u32>("workers"),
         atomic: number(given, "atomic", 0) == 1,
     }

@@ -2,7 +2,7 @@
 use std::alloc::{AllocError, Global};
 use std::process::Abort;
 use std::test::Fail;
-use xg_command::{Command, PlainWords, RowWords, WordSettings, Words};
+use xg_command::{Command, PlainWords, RowSettings, Settings, Words};
 
 fn push_all(words: &mut Words, row: &[&str]) -> Result<(), AllocError> {
     for word in row {
@@ -25,8 +25,8 @@ pub(crate) fn assert_no_row(rt: &impl Abort, row: Option<WordList>) {
     assert_eq!(rt; row, None);
 }
 
-const fn settings(rounds: u32, every: u32, scale: u32) -> WordSettings {
-    WordSettings {
+const fn settings(rounds: u32, every: u32, scale: u32) -> Settings {
+    Settings {
         rounds,
         every,
         scale,
@@ -34,8 +34,8 @@ const fn settings(rounds: u32, every: u32, scale: u32) -> WordSettings {
 }
 
 /// Rows with locks.
-const fn locked(workers: Option<u32>) -> RowWords {
-    RowWords {
+const fn locked(workers: Option<u32>) -> RowSettings {
+    RowSettings {
         workers,
         atomic: false,
     }
@@ -57,7 +57,7 @@ const fn plus(file: &str, rounds: u32, every: u32, scale: u32) -> Option<Command
     })
 }
 
-const fn drill(cards: u32, rounds: u32, rows: RowWords) -> Option<Command<'static>> {
+const fn drill(cards: u32, rounds: u32, rows: RowSettings) -> Option<Command<'static>> {
     Some(Command::Drill {
         cards,
         settings: settings(rounds, rounds, 1_048_576),
@@ -68,7 +68,7 @@ const fn drill(cards: u32, rounds: u32, rows: RowWords) -> Option<Command<'stati
 /// The files of a batch, where there is room for them.
 pub(crate) fn batch<'a>(
     files: &[&'a str],
-    settings: WordSettings,
+    settings: Settings,
     workers: Option<u32>,
 ) -> Option<Command<'a>> {
     let files = PlainWords::try_from(files).ok()?;
@@ -211,7 +211,7 @@ static ATOMIC: [(WordList, Option<u32>, bool); 5] = [
 /// The first row of `ATOMIC` whose words name another command.
 fn first_not_atomic(alloc: Global) -> Result<Option<WordList>, AllocError> {
     for &(row, workers, atomic) in &ATOMIC {
-        if !names(alloc, row, drill(3, 1, RowWords { workers, atomic }))? {
+        if !names(alloc, row, drill(3, 1, RowSettings { workers, atomic }))? {
             return Ok(Some(row));
         }
     }

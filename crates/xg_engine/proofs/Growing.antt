@@ -21,7 +21,7 @@ use Rattle.xg_plan.specs.Plan.{AreOfOneForm}
 use Rattle.xg_engine.specs.Evaluations.{AreSumsAfter}
 use Rattle.xg_engine.specs.Players.{CanGrow, IsSmallPlan, IsSoundForm, StandAfter, sum_with, times_of}
 use Rattle.xg_engine.specs.State.{AreWithinLimits, AreWithinLimitsOf}
-use Rattle.xg_engine.specs.declared.settings.Settings.{Settings}
+use Rattle.def_command.specs.declared.Settings.{Settings}
 use Rattle.xg_engine.specs.declared.players.Players.{Players}
 
 first_of_zeros : (n : ℕ) → 1 ≤ n → slice_index (replicate n 0) 0 ≡ 0

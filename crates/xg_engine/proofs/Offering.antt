@@ -18,7 +18,7 @@ use Rattle.def_plus.specs.Variants.{rounds_of}
 use Rattle.def_plus_run.specs.VariantRun.{run_of}
 use Rattle.xg_bracket.specs.Board.{last_round}
 use Rattle.xg_engine.specs.Evaluations.{best_offer, offers_upto}
-use Rattle.xg_engine.specs.declared.settings.Settings.{Settings}
+use Rattle.def_command.specs.declared.Settings.{Settings}
 
 module _ (p : ℕ → Bool) where
   kept_more : (n : ℕ)

@@ -14,7 +14,7 @@ use Rattle.def_plus_run.specs.VariantRun.{run_of}
 use Rattle.xg_bracket.specs.Board.{offer_of, sizes_of}
 use Rattle.xg_engine.specs.declared.evaluating.Evaluator.{Evaluator}
 use Rattle.xg_engine.specs.declared.evaluating.RowRoom.{RowRoom}
-use Rattle.xg_engine.specs.declared.settings.Settings.{Settings}
+use Rattle.def_command.specs.declared.Settings.{Settings}
 
 -- there is room for all sequences, in either width
 pub record HasRoomForRows (form : SequenceForm) (room : RowRoom) : Type 0 where

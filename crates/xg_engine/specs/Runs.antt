@@ -10,7 +10,7 @@ use Rattle.xg_bracket.specs.declared.parts.PlanAndReply.{PlanAndReply}
 use Rattle.xg_engine.specs.Evaluations.{CanEvaluate, offers_upto}
 use Rattle.xg_engine.specs.Players.{StandAfter}
 use Rattle.xg_engine.specs.declared.running.Run.{Run}
-use Rattle.xg_engine.specs.declared.settings.Settings.{Settings}
+use Rattle.def_command.specs.declared.Settings.{Settings}
 
 -- after so many rounds the players stand as the rounds say, and the board has the offers of the evaluated ones
 pub record IsAfter (variant : Variant) (form : SequenceForm) (settings : Settings) (n : ℕ) (run : Run) : Type 0 where

@@ -8,7 +8,7 @@ use Rattle.def_round.specs.Rounds.{Standing}
 use Rattle.def_plus.specs.declared.Variant.{Variant}
 use Rattle.def_plus.specs.Variants.{most_rounds_of, most_scale_of}
 use Rattle.def_plan.specs.Weighed.{WeighedGame}
-use Rattle.xg_engine.specs.declared.settings.Settings.{Settings}
+use Rattle.def_command.specs.declared.Settings.{Settings}
 
 -- the sums of each player's plans over the rounds of a run
 pub record SumsOfPlans : Type 0 where

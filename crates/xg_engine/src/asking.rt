@@ -5,7 +5,7 @@ ghost use Rattle.def_game_numbers.specs.WholeSums.{HasWholeSum};
 ghost use Rattle.xg_cert.specs.Outcome.{head_of};
 ghost use Rattle.xg_engine.specs.State.{head_with};
 
-use crate::settings::Settings;
+use def_command::Settings;
 use xg_cert::Head;
 use xg_numbers::Numbers;
 use xg_plan::Player;

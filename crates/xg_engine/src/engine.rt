@@ -14,7 +14,7 @@ ghost use Rattle.xg_jobs.specs.Table.{HasLeavesOf, Serves};
 
 use crate::asking::head_with;
 use crate::running::{FinishedRun, play};
-use crate::settings::Settings;
+use def_command::Settings;
 use crate::source::RowSource;
 use def_plus::Variant;
 use std::alloc::{AllocError, Global};

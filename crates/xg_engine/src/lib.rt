@@ -7,10 +7,9 @@ mod evaluating;
 mod finishing;
 mod players;
 mod running;
-mod settings;
 mod source;
 
 pub use asking::head_with;
 pub use def_plus::Variant;
 pub use engine::Engine;
-pub use settings::Settings;
+pub use def_command::Settings;

@@ -12,7 +12,7 @@ ghost use Rattle.xg_engine.specs.State.{AreWithinLimits, AreWithinLimitsOf, Asks
 use crate::evaluating::Evaluator;
 use crate::finishing::outcome_with;
 use crate::players::Players;
-use crate::settings::Settings;
+use def_command::Settings;
 use crate::source::RowSource;
 use def_plus::Variant;
 use std::alloc::{AllocError, Global};

@@ -11,12 +11,11 @@ use Rattle.def_sequence_form.proofs.Leaves.{form_has_the_mass}
 use Rattle.def_program.specs.Text.{form_of_file, game_head}
 use Rattle.def_program.proofs.Played.{leaves_are}
 use Rattle.xg_engine.specs.State.{head_with}
-use Rattle.xg_engine.specs.declared.settings.Settings.{Settings as RunSettings}
-use Rattle.xg_load.specs.Settings.{settings_seen}
+use Rattle.def_command.specs.declared.Settings.{Settings}
 
 -- the head of a run is the game's head
-pub run_head_is : (game : GameFile) (settings : RunSettings)
-    → head_with (weighed_game game) settings ≡ game_head game (settings_seen settings)
+pub run_head_is : (game : GameFile) (settings : Settings)
+    → head_with (weighed_game game) settings ≡ game_head game settings
 run_head_is game settings = λ i. record {
   nodes = node_count game.tree;
   leaves = leaves_are game i;

@@ -1,4 +1,3 @@
 pub mod Accepted
 pub mod Endings
 pub mod Loads
-pub mod Settings

@@ -5,7 +5,6 @@ ghost use Rattle.def_payoffs.specs.Range.{IsPayoffRange};
 ghost use Rattle.def_program.specs.Text.{game_head};
 ghost use Rattle.xg_cert.specs.Outcome.{head_of};
 ghost use Rattle.xg_load.specs.Accepted.{Opens};
-ghost use Rattle.xg_load.specs.Settings.{settings_seen};
 ghost use Rattle.def_game_numbers.specs.Weighed.{weighed_game};
 
 use std::alloc::{AllocError, Global};
@@ -81,7 +80,7 @@ impl AcceptedGame {
 
     /// The game's numbers, with what is asked.
     pub fn head(&self, settings: Settings) -> Head
-        ensures { head_of result ≡ game_head self.now (settings_seen settings) }
+        ensures { head_of result ≡ game_head self.now settings }
     {
         head_with(&self.numbers, settings)
     }

@@ -2,7 +2,7 @@
 use Rattle.std.specs.Prelude.{◌≤◌}
 use Rattle.def_sums.specs.Limits.{most_rounds}
 use Rattle.def_plus.specs.Limits.{most_plus_rounds, most_plus_scale}
-use Rattle.xg_engine.specs.declared.settings.Settings.{Settings}
+use Rattle.def_command.specs.declared.Settings.{Settings}
 
 pub record ArePlusSettings (settings : Settings) : Type 0 where
   pub few_rounds : settings.rounds ≤ most_plus_rounds

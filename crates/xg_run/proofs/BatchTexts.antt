@@ -19,14 +19,13 @@ use Rattle.def_batch.specs.Batch.{BatchEntry, item_of}
 use Rattle.def_program.specs.BatchText.{file_line, item_text, parts_text}
 use Rattle.xg_cert.specs.Writable.{IsOutcomeOf}
 use Rattle.xg_engine.specs.State.{EngineState, head_with}
-use Rattle.xg_engine.specs.declared.settings.Settings.{Settings}
+use Rattle.def_command.specs.declared.Settings.{Settings}
 use Rattle.xg_batch.specs.Items.{AreItemsOf, IsItemOf, IsPlayedEngine, batch_entry_seen}
 use Rattle.xg_batch.specs.declared.entry.Entry.{Entry}
 use Rattle.xg_batch.specs.declared.item.Item.{Item}
 use Rattle.xg_batch.specs.declared.item.Item.TheVariants.{Solved, Refused}
 use Rattle.xg_run.specs.declared.batch_text.Part.{Part}
 use Rattle.xg_run.specs.Batches.{CanBeShown, CanWritePart, HasOutcome, IsTextPart, item_shown, items_shown, left_shown, part_bytes, parts_bytes}
-use Rattle.xg_load.specs.Settings.{settings_seen}
 use Rattle.xg_run.proofs.Texts.{played_is}
 
 -- ---- items
@@ -36,7 +35,7 @@ module _ (settings : Settings) (engine : EngineState) where
   left game = outcome (weighed_game game).form (head_with (weighed_game game) settings)
 
   solved_text : (game : GameFile) → IsPlayedEngine settings (weighed_game game) engine
-      → left_shown engine.game.form engine.outcome ≡ item_text (settings_seen settings) (Ok game)
+      → left_shown engine.game.form engine.outcome ≡ item_text settings (Ok game)
   solved_text game is =
       ap (left_shown engine.game.form) is.outcome_is
       ∙ played_is Plain game settings engine.game.form (left game)
@@ -52,12 +51,12 @@ module _ (settings : Settings) (engine : EngineState) where
 
 module _ (settings : Settings) where
   item_text_is : (entry : BatchEntry) (item : Item) → IsItemOf settings entry item
-      → item_shown item ≡ item_text (settings_seen settings) (item_of entry)
-  item_text_is entry (Refused fault) is = ap (item_text (settings_seen settings)) (sym is)
+      → item_shown item ≡ item_text settings (item_of entry)
+  item_text_is entry (Refused fault) is = ap (item_text settings) (sym is)
   item_text_is entry (Solved engine) is = by_result (item_of entry) is
     where
       by_result : (r : Result GameFile FileFault) → IsOkAnd r (λ game. IsPlayedEngine settings (weighed_game game) engine)
-          → left_shown engine.game.form engine.outcome ≡ item_text (settings_seen settings) r
+          → left_shown engine.game.form engine.outcome ≡ item_text settings r
       by_result (Ok game) is = solved_text settings engine game is
       by_result (Err fault) is = absurd is
 
@@ -71,7 +70,7 @@ module _ (settings : Settings) where
 
   -- what is written of the items is the text of what the entries stand for
   pub items_text_is : (number : ℕ) (entries : List Entry) (items : List Item) → AreItemsOf settings entries items
-      → items_shown number items ≡ parts_text (settings_seen settings) number (map item_of (map batch_entry_seen entries))
+      → items_shown number items ≡ parts_text settings number (map item_of (map batch_entry_seen entries))
   items_text_is number [] [] are = refl
   items_text_is number [] (item ∷ items) are = absurd are
   items_text_is number (entry ∷ entries) [] are = absurd are

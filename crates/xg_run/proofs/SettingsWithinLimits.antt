@@ -1,67 +1,61 @@
 -- What the words ask is within the limits of a run.
-use Rattle.std.proofs.Common.{◌≡◌, ℕ, ◌≤◌, List, Option, Some, None, IfSome, sym, subst, arith}
+use Rattle.std.proofs.Common.{◌≡◌, ℕ, ◌≤◌, List, Option, Some, None, IfSome, arith}
 use Rattle.std.specs.Prelude.{unwrap_or}
-use Rattle.def_sums.specs.Limits.{most_rounds, most_scale, most_workers}
+use Rattle.def_sums.specs.Limits.{most_workers}
 use Rattle.def_plus.specs.declared.Variant.TheVariants as variants
-use Rattle.def_plus.specs.Limits.{most_plus_rounds, most_plus_scale}
 use Rattle.def_command.specs.Grammar.{Batch, Drill, Plus, RowSettings, Settings, Solve, command_of_words}
 use Rattle.def_command.specs.GrammarLaws.{InRange}
 use Rattle.def_command.proofs.InRange.{settings_in_range}
-use Rattle.xg_engine.specs.declared.settings.Settings.{Settings as RunSettings}
 use Rattle.xg_engine.specs.State.{AreWithinLimits, AreWithinLimitsOf}
-use Rattle.xg_load.specs.Settings.{settings_seen}
 
--- settings in their ranges, as the engine has them
-within : (settings : Settings) (workers : Option ℕ) (asked : RunSettings) → InRange settings workers
-    → settings_seen asked ≡ settings → AreWithinLimitsOf variants.Plain asked
-within settings workers asked range same = record {
-  few_rounds = subst (λ (s : Settings). s.rounds ≤ most_rounds) (sym same) range.few_rounds;
-  some_every = subst (λ (s : Settings). 1 ≤ s.every) (sym same) range.some_every;
-  small_every = subst (λ (s : Settings). s.every ≤ most_rounds) (sym same) range.small_every;
-  some_scale = subst (λ (s : Settings). 1 ≤ s.scale) (sym same) range.some_scale;
-  small_scale = subst (λ (s : Settings). s.scale ≤ most_scale) (sym same) range.small_scale;
-}
+-- settings in their ranges are within the limits
+within : (settings : Settings) (workers : Option ℕ) → InRange settings workers
+    → AreWithinLimitsOf variants.Plain settings
+within settings workers range =
+    record {
+      few_rounds = range.few_rounds;
+      some_every = range.some_every;
+      small_every = range.small_every;
+      some_scale = range.some_scale;
+      small_scale = range.small_scale;
+    }
 
 -- the settings of the command that the words name
-pub asked_within : (words : List (List ℕ)) (file : List ℕ) (settings : Settings) (rows : RowSettings) (asked : RunSettings)
-    → command_of_words words ≡ Some (Solve file settings rows) → settings_seen asked ≡ settings
-    → AreWithinLimitsOf variants.Plain asked
-asked_within words file settings rows asked is same =
-    within settings rows.workers asked (settings_in_range.of_solve words file settings rows is) same
+pub solve_within : (words : List (List ℕ)) (file : List ℕ) (settings : Settings) (rows : RowSettings)
+    → command_of_words words ≡ Some (Solve file settings rows) → AreWithinLimitsOf variants.Plain settings
+solve_within words file settings rows is =
+    within settings rows.workers (settings_in_range.of_solve words file settings rows is)
 
--- the settings of a drill that the words name are within the limits of a run
-pub drill_within : (words : List (List ℕ)) (cards : ℕ) (settings : Settings) (rows : RowSettings) (asked : RunSettings)
-    → command_of_words words ≡ Some (Drill cards settings rows) → settings_seen asked ≡ settings
-    → AreWithinLimitsOf variants.Plain asked
-drill_within words cards settings rows asked is same =
-    within settings rows.workers asked (settings_in_range.of_drill words cards settings rows is) same
+-- those of a drill
+pub drill_within : (words : List (List ℕ)) (cards : ℕ) (settings : Settings) (rows : RowSettings)
+    → command_of_words words ≡ Some (Drill cards settings rows) → AreWithinLimitsOf variants.Plain settings
+drill_within words cards settings rows is =
+    within settings rows.workers (settings_in_range.of_drill words cards settings rows is)
 
 -- and those of a batch
-pub batch_within : (words files : List (List ℕ)) (settings : Settings) (workers : Option ℕ) (asked : RunSettings)
-    → command_of_words words ≡ Some (Batch files settings workers) → settings_seen asked ≡ settings
-    → AreWithinLimits asked
-batch_within words files settings workers asked is same =
-    let it = within settings workers asked (settings_in_range.of_batch words files settings workers is) same in
+pub batch_within : (words files : List (List ℕ)) (settings : Settings) (workers : Option ℕ)
+    → command_of_words words ≡ Some (Batch files settings workers) → AreWithinLimits settings
+batch_within words files settings workers is =
+    let range = settings_in_range.of_batch words files settings workers is in
     record {
-      few_rounds = it.few_rounds;
-      some_every = it.some_every;
-      small_every = it.small_every;
-      some_scale = it.some_scale;
-      small_scale = it.small_scale;
+      few_rounds = range.few_rounds;
+      some_every = range.some_every;
+      small_every = range.small_every;
+      some_scale = range.some_scale;
+      small_scale = range.small_scale;
     }
 
 -- those of `plus` are within the limits of CFR+
-pub plus_within : (words : List (List ℕ)) (file : List ℕ) (settings : Settings) (rows : RowSettings) (asked : RunSettings)
-    → command_of_words words ≡ Some (Plus file settings rows) → settings_seen asked ≡ settings
-    → AreWithinLimitsOf variants.Plus asked
-plus_within words file settings rows asked is same =
+pub plus_within : (words : List (List ℕ)) (file : List ℕ) (settings : Settings) (rows : RowSettings)
+    → command_of_words words ≡ Some (Plus file settings rows) → AreWithinLimitsOf variants.Plus settings
+plus_within words file settings rows is =
     let range = settings_in_range.of_plus words file settings rows is in
     record {
-      few_rounds = subst (λ (s : Settings). s.rounds ≤ most_plus_rounds) (sym same) range.few_rounds;
-      some_every = subst (λ (s : Settings). 1 ≤ s.every) (sym same) range.some_every;
-      small_every = subst (λ (s : Settings). s.every ≤ most_rounds) (sym same) range.small_every;
-      some_scale = subst (λ (s : Settings). 1 ≤ s.scale) (sym same) range.some_scale;
-      small_scale = subst (λ (s : Settings). s.scale ≤ most_plus_scale) (sym same) range.small_scale;
+      few_rounds = range.few_rounds;
+      some_every = range.some_every;
+      small_every = range.small_every;
+      some_scale = range.some_scale;
+      small_scale = range.small_scale;
     }
 
 -- a number of workers that is given is at least 1, and no more than the limit

@@ -15,8 +15,7 @@ use Rattle.def_cert_versions.specs.Verdict.{in_version_two}
 use Rattle.def_command.specs.Grammar.{Settings}
 use Rattle.def_program.specs.Text.{form_of_file, game_head, between_marks, played_text, text_of_variant}
 use Rattle.xg_engine.specs.State.{head_with}
-use Rattle.xg_engine.specs.declared.settings.Settings.{Settings as RunSettings}
-use Rattle.xg_load.specs.Settings.{settings_seen}
+use Rattle.def_command.specs.declared.Settings.{Settings as RunSettings}
 use Rattle.xg_load.proofs.Heads.{run_head_is}
 use Rattle.def_game_numbers.specs.Weighed.{weighed_game}
 
@@ -56,7 +55,7 @@ outcome_text variant form left = text_of_variant variant (in_version_two (certif
 -- what a run leaves is written as the text of the game
 pub played_is : (variant : Variant) (game : GameFile) (settings : RunSettings) (form : SequenceForm) (left : Outcome)
     → form ≡ form_of_file game → left ≡ outcome_of variant (form_of_file game) (head_with (weighed_game game) settings)
-    → outcome_text variant form left ≡ played_text variant game (settings_seen settings)
+    → outcome_text variant form left ≡ played_text variant game settings
 played_is variant game settings form left form_is left_is =
     (λ i. outcome_text variant (form_is i) (left_is i))
     ∙ ap (λ (head : Head). outcome_text variant (form_of_file game) (outcome_of variant (form_of_file game) head))

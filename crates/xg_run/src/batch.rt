@@ -12,7 +12,6 @@ ghost use Rattle.xg_engine.specs.State.{AreWithinLimits};
 ghost use Rattle.xg_batch.specs.Items.{HasAtMost, batch_entry_seen};
 ghost use Rattle.xg_run.specs.Batches.{BatchHasCause, CanBeShown, HaveContents, items_shown};
 ghost use Rattle.xg_run.specs.Concludes.{Concludes, Tells};
-ghost use Rattle.xg_load.specs.Settings.{settings_seen};
 
 use crate::batch_text::{BatchText, parts_of};
 use crate::ending::Ending;
@@ -45,7 +44,7 @@ pub fn batch<Rt: Threads + Wait + Sync, F: Files, O: Sink, G: Gate>(
     requires limits { AreWithinLimits settings }
     requires workers { (1 ≤ workers) × (workers ≤ most_workers) }
     ensures concludes { Concludes ⊥
-        (AllMean (settings_seen settings) (map (λ name. F.told files.old name.now) names.now))
+        (AllMean settings (map (λ name. F.told files.old name.now) names.now))
         (files_call F.Files files.old files.new) (sink_call O.Sink out.old out.new) result }
     ensures opens { OpensAtMost (files_call F.Files files.old files.new) (length names.now) }
 {
@@ -135,7 +134,7 @@ fn solve_entries<Rt: Threads + Wait + Sync, O: Sink, G: Gate>(
     requires lengths { All (HasAtMost most_bytes) entries.now }
     requires limits { AreWithinLimits settings }
     requires workers { (1 ≤ workers) × (workers ≤ most_workers) }
-    ensures { Tells (parts_text (settings_seen settings) 1 (map item_of (map batch_entry_seen entries.now)))
+    ensures { Tells (parts_text settings 1 (map item_of (map batch_entry_seen entries.now)))
         (sink_call O.Sink out.old out.new) result }
 {
     let Ok(items) = solve_all(rt, alloc, entries, settings, workers, gate) else {

@@ -8,7 +8,6 @@ ghost use Rattle.def_program.specs.Program.{solved};
 ghost use Rattle.def_plus.specs.declared.Variant.TheVariants.{Plain};
 ghost use Rattle.xg_engine.specs.State.{AreWithinLimitsOf};
 ghost use Rattle.xg_run.specs.Concludes.{Tells};
-ghost use Rattle.xg_load.specs.Settings.{settings_seen};
 
 use crate::certificate::GameText;
 use crate::ending::Ending;
@@ -52,7 +51,7 @@ pub fn drill<Rt: Threads + Wait + Sync, O: Sink, G: Gate>(
     requires low { least_cards ≤ cards }
     requires high { cards ≤ most_cards }
     requires limits { AreWithinLimitsOf Plain settings }
-    ensures { Tells (solved (settings_seen settings) (poker cards)) (sink_call O.Sink out.old out.new) result }
+    ensures { Tells (solved settings (poker cards)) (sink_call O.Sink out.old out.new) result }
 {
     let Ok(game) = one_card_poker(alloc, cards) else {
         return Ending::NoMemory;

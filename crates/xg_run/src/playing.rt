@@ -10,7 +10,6 @@ ghost use Rattle.xg_engine.specs.State.{AreWithinLimitsOf};
 ghost use Rattle.xg_jobs.specs.Rows.{AreNumbersOf, ArePlainSums};
 ghost use Rattle.xg_jobs.specs.Table.{IsTableOf};
 ghost use Rattle.xg_run.specs.Concludes.{Tells};
-ghost use Rattle.xg_load.specs.Settings.{settings_seen};
 ghost use Rattle.xg_run.specs.Written.{IsEndingOf};
 
 use crate::certificate::PlayedText;
@@ -38,7 +37,7 @@ pub fn play<Rt: Threads + Wait + Sync, O: Sink, G: Gate>(
     out: &mut O,
 ) -> Ending
     requires { AreWithinLimitsOf variant settings }
-    ensures { Tells (played_text variant accepted (settings_seen settings)) (sink_call O.Sink out.old out.new) result }
+    ensures { Tells (played_text variant accepted settings) (sink_call O.Sink out.old out.new) result }
 {
     if settings.rounds == 0 {
         let ending = write_unplayed(alloc, &accepted, variant, settings, out);
@@ -65,7 +64,7 @@ fn play_by<Rt: Threads + Wait + Sync, O: Sink, G: Gate>(
 ) -> Ending
     requires { AreWithinLimitsOf variant settings }
     ensures { (game : GameFile) → engine.old.game ≡ weighed_game game
-        → Tells (played_text variant game (settings_seen settings)) (sink_call O.Sink out.old out.new) result }
+        → Tells (played_text variant game settings) (sink_call O.Sink out.old out.new) result }
 {
     let Ok(()) = play_rounds(rt, alloc, engine, variant, settings, rows) else {
         return Ending::NoMemory;
@@ -119,7 +118,7 @@ fn write_unplayed<O: Sink>(
     out: &mut O,
 ) -> Ending
     requires { settings.rounds ≡ 0 }
-    ensures { Tells (played_text variant accepted.now (settings_seen settings)) (sink_call O.Sink out.old out.new) result }
+    ensures { Tells (played_text variant accepted.now settings) (sink_call O.Sink out.old out.new) result }
 {
     let numbers = accepted.numbers();
     numbers.facts();

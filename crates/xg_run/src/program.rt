@@ -5,9 +5,7 @@ ghost use Rattle.xg_io.specs.Calls.{files_call, sink_call};
 ghost use Rattle.def_command.specs.Grammar.{command_of_words, named_files};
 ghost use Rattle.def_program.specs.Program.{played};
 ghost use Rattle.def_program.specs.Text.{info_text};
-ghost use Rattle.xg_command.specs.Values.{settings_value};
 ghost use Rattle.xg_engine.specs.State.{AreWithinLimitsOf};
-ghost use Rattle.xg_load.specs.Settings.{settings_seen};
 ghost use Rattle.def_program.specs.Bounds.{BoundsHold, ForEachPlayed};
 ghost use Rattle.def_program.specs.Checked.{ForEachChecked};
 ghost use Rattle.def_program.specs.Lines.{IsCheck, SaysLine};
@@ -27,7 +25,7 @@ use std::alloc::Global;
 use std::marker::Sync;
 use std::sync::Wait;
 use std::thread::Threads;
-use xg_command::{Command, WordSettings, Words};
+use xg_command::{Command, Words};
 use xg_engine::{Settings, Variant};
 use xg_io::{Files, Gate, Sink};
 use xg_load::{AcceptedGame, load};
@@ -55,7 +53,7 @@ fn solve<Rt: Threads + Wait + Sync, F: Files, O: Sink, G: Gate>(
 ) -> Ending
     requires may_open { IsTrue (F.may_open files.old file.now) }
     requires limits { AreWithinLimitsOf variant settings }
-    ensures concludes { Concludes ⊥ (FileTold (played variant (settings_seen settings)) (F.told files.old file.now))
+    ensures concludes { Concludes ⊥ (FileTold (played variant settings) (F.told files.old file.now))
         (files_call F.Files files.old files.new) (sink_call O.Sink out.old out.new) result }
     ensures opens { OpensAtMost (files_call F.Files files.old files.new) 1 }
 {
@@ -92,17 +90,6 @@ fn tell<O: Sink>(alloc: Global, accepted: &AcceptedGame, out: &mut O) -> Ending
     ending_of(write_info(&front, &accepted.head(NO_ROUNDS), out))
 }
 
-/// The settings of a command, as the engine takes them.
-fn asked(settings: WordSettings) -> Settings
-    ensures { settings_seen result ≡ settings_value settings }
-{
-    Settings {
-        rounds: settings.rounds,
-        every: settings.every,
-        scale: settings.scale,
-    }
-}
-
 /// Does what the words say, and says nothing of it, unless they name no command.
 fn conclude<Rt: Threads + Wait + Sync, F: Files, O: Sink, G: Gate>(
     rt: &Rt,
@@ -127,7 +114,6 @@ fn conclude<Rt: Threads + Wait + Sync, F: Files, O: Sink, G: Gate>(
             },
         ) => {
             let rows = SharedRows::of(rows, gate);
-            let settings = asked(settings);
             Some(solve(rt, alloc, file, Variant::Plain, settings, &rows, files, out))
         }
         Some(
@@ -138,7 +124,6 @@ fn conclude<Rt: Threads + Wait + Sync, F: Files, O: Sink, G: Gate>(
             },
         ) => {
             let rows = SharedRows::of(rows, gate);
-            let settings = asked(settings);
             Some(solve(rt, alloc, file, Variant::Plus, settings, &rows, files, out))
         }
         Some(Command::Check { file, certificate }) => {
@@ -155,16 +140,7 @@ fn conclude<Rt: Threads + Wait + Sync, F: Files, O: Sink, G: Gate>(
             },
         ) => {
             let workers = workers.unwrap_or(BATCH_WORKERS);
-            Some(batch(
-                rt,
-                alloc,
-                &names,
-                asked(settings),
-                workers,
-                files,
-                out,
-                gate,
-            ))
+            Some(batch(rt, alloc, &names, settings, workers, files, out, gate))
         }
         Some(Command::Info { file }) => Some(info(alloc, file, files, out)),
         Some(Command::Gen { cards }) => Some(generate(alloc, cards, out)),
@@ -176,7 +152,7 @@ fn conclude<Rt: Threads + Wait + Sync, F: Files, O: Sink, G: Gate>(
             },
         ) => {
             let rows = SharedRows::of(rows, gate);
-            Some(drill(rt, alloc, cards, asked(settings), &rows, out))
+            Some(drill(rt, alloc, cards, settings, &rows, out))
         }
         None => None,
     }

@@ -11,7 +11,7 @@ use std::marker::Sync;
 use std::sync::Wait;
 use std::thread::Threads;
 use xg_board::LockedRows;
-use xg_command::RowWords;
+use xg_command::RowSettings;
 use xg_io::Gate;
 use xg_jobs::{JobTable, RowInput, Rows};
 use xg_rowcore::USUAL_STRIPES;
@@ -36,7 +36,7 @@ pub struct SharedRows<'g, G: Gate> {
 
 impl<'g, G: Gate> SharedRows<'g, G> {
     /// For as many workers as the words ask for, and else as many as pay.
-    pub fn of(words: RowWords, gate: &'g G) -> SharedRows<'g, G>
+    pub fn of(words: RowSettings, gate: &'g G) -> SharedRows<'g, G>
         requires some { IfSome words.workers (λ number. 1 ≤ number) }
         requires few { IfSome words.workers (λ number. number ≤ most_workers) }
         ensures given { IfSome words.workers (λ number. result.workers ≡ number) }

@@ -5,13 +5,12 @@ use Rattle.def_program.specs.BatchText.{parts_text}
 use Rattle.xg_batch.specs.Items.{batch_entry_seen}
 use Rattle.xg_batch.specs.declared.entry.Entry.{Entry}
 use Rattle.xg_run.specs.Concludes.{Tells}
-use Rattle.xg_load.specs.Settings.{settings_seen}
 use Rattle.xg_run.proofs.BatchEntries.{ended}
 use Rattle.xg_run.proofs.batch.batch.Goals as goal
 
 pub returns-in-Ok-clause-concludes : goal.returns-in-Ok-clause-concludes
 returns-in-Ok-clause-concludes g c =
-    let settings = settings_seen c.args.settings in
+    let settings = c.args.settings in
     ended settings (map (λ name. g.F.Files.told c.args.files.now name.now) c.args.names.now)
     (map batch_entry_seen c.in-Ok.entries.items) c.in-Ok.ensures.exact
     (files_call g.F.Files c.args.files.now c.read_entries.new.files)

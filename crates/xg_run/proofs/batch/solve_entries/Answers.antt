@@ -5,7 +5,6 @@ use Rattle.def_program.specs.BatchText.{parts_text}
 use Rattle.xg_batch.specs.Items.{batch_entry_seen}
 use Rattle.xg_run.specs.Batches.{CanBeShown, items_shown}
 use Rattle.xg_run.specs.Concludes.{Tells}
-use Rattle.xg_load.specs.Settings.{settings_seen}
 use Rattle.xg_run.proofs.BatchTexts.{items_can_be_shown, items_text_is}
 use Rattle.xg_run.proofs.batch.solve_entries.Goals as goal
 
@@ -16,7 +15,7 @@ write_items-ending-requires g c =
 
 pub returns : goal.returns
 returns g c =
-    let text : List ℕ = parts_text (settings_seen c.args.settings) 1 (map item_of (map batch_entry_seen c.args.entries.now)) in
+    let text : List ℕ = parts_text c.args.settings 1 (map item_of (map batch_entry_seen c.args.entries.now)) in
     let are : items_shown 1 c.deref.result.now ≡ text =
     ap (items_shown 1) c.deref.ensures.value
     ∙ items_text_is c.args.settings 1 c.args.entries.now c.in-Ok.items.items c.in-Ok.ensures.each in

@@ -5,7 +5,6 @@ use Rattle.def_plus_run.specs.VariantRun.{outcome_of}
 use Rattle.def_program.specs.Text.{form_of_file, played_text}
 use Rattle.def_game_numbers.specs.Weighed.{weighed_game}
 use Rattle.xg_engine.specs.State.{head_with}
-use Rattle.xg_load.specs.Settings.{settings_seen}
 use Rattle.xg_run.proofs.Solved.{tells, writes_of}
 use Rattle.xg_run.proofs.Texts.{outcome_text, played_is, same_outcome}
 use Rattle.xg_run.proofs.playing.play_by.Goals as goal
@@ -23,7 +22,7 @@ returns-in-Some g c = λ game opened.
     (c.in-Some.ensures ∙ c.in-Ok.ensures.left.outcome)
     ∙ (λ i. outcome_of variant (opened i).form (head_with (opened i) settings)) in
     tells (sink_call g.O.Sink c.args.out.now c.write_paged.new.out)
-    (played_text variant game (settings_seen settings)) (outcome_text variant c.form.result.now c.in-Some.outcome.now)
+    (played_text variant game settings) (outcome_text variant c.form.result.now c.in-Some.outcome.now)
     (played_is variant game settings c.form.result.now c.in-Some.outcome.now form_is left_is)
     c.write_paged.result c.ending_of.result c.ending_of.ensures
     (writes_of (g.O.Sink.written c.args.out.now) (g.O.Sink.written c.write_paged.new.out)

@@ -9,7 +9,6 @@ use Rattle.def_game_numbers.specs.WholeSums.{HasWholeSum, IsWholeIn}
 use Rattle.def_program.specs.Text.{form_of_file, played_text}
 use Rattle.xg_cert.specs.Outcome.{head_of}
 use Rattle.xg_cert.specs.Writable.{IsOutcomeOf}
-use Rattle.xg_load.specs.Settings.{settings_seen}
 use Rattle.xg_run.proofs.Solved.{tells, writes_of}
 use Rattle.xg_run.proofs.Texts.{outcome_text, unplayed_is}
 use Rattle.xg_run.proofs.playing.write_unplayed.Goals as goal
@@ -34,7 +33,7 @@ write_paged-requires g c =
 pub returns : goal.returns
 returns g c =
     let game = c.args.accepted.now in
-    let settings = settings_seen c.args.settings in
+    let settings = c.args.settings in
     let variant = c.args.variant in
     let form_is : c.form.result.now ≡ form_of_file game =
     c.form.ensures ∙ ap (λ (numbers : WeighedGame). numbers.form) c.numbers-numbers.ensures in

@@ -12,58 +12,57 @@ use Rattle.def_canon.specs.Canon.{canon}
 use Rattle.def_program.specs.Program.{played, solved}
 use Rattle.def_program.specs.Meaning.{AllMean, FileMeans}
 use Rattle.xg_command.specs.declared.command.Command.{Command}
-use Rattle.xg_command.specs.Values.{command_value, rows_value, settings_value}
+use Rattle.xg_command.specs.Values.{command_value}
 use Rattle.def_canon.specs.Poker.{poker}
 use Rattle.xg_command.specs.Plain.{plain_value}
 use Rattle.xg_run.specs.Concludes.{Concludes, FileTold, Tells}
 use Rattle.def_program_opens.specs.MayOpen.{MayOpen}
 use Rattle.xg_run.proofs.MadeEnds.{poker_is_told, text_told}
-use Rattle.xg_run.proofs.SettingsWithinLimits.{asked_within, batch_within, batch_workers_within, drill_within, drill_workers_within, plus_within, plus_workers_within, workers_within}
+use Rattle.xg_run.proofs.SettingsWithinLimits.{solve_within, batch_within, batch_workers_within, drill_within, drill_workers_within, plus_within, plus_workers_within, workers_within}
 use Rattle.xg_run.proofs.WordsMeanTheirCommand.{by_command, of_each_name, opens_named, told_of_names}
 use Rattle.xg_run.proofs.program.conclude.Goals as goal
 
 pub of-rows-requires-clause-some : goal.of-rows-requires-clause-some
 of-rows-requires-clause-some g c κs at =
     let arm = c.in-Some-Solve in
-    (workers_within c.args.words.now arm.file.now (settings_value arm.settings) (rows_value arm.rows)
+    (workers_within c.args.words.now arm.file.now arm.settings arm.rows
     (sym arm.ensures ∙ ap (λ (command : Command). Some (command_value command)) arm.field-0-is)).0
 
 pub of-rows-requires-clause-few : goal.of-rows-requires-clause-few
 of-rows-requires-clause-few g c κs at =
     let arm = c.in-Some-Solve in
-    (workers_within c.args.words.now arm.file.now (settings_value arm.settings) (rows_value arm.rows)
+    (workers_within c.args.words.now arm.file.now arm.settings arm.rows
     (sym arm.ensures ∙ ap (λ (command : Command). Some (command_value command)) arm.field-0-is)).1
 
 pub of-rows-requires-in-Some-Plus-clause-some : goal.of-rows-requires-in-Some-Plus-clause-some
 of-rows-requires-in-Some-Plus-clause-some g c κs at =
     let arm = c.in-Some-Plus in
-    (plus_workers_within c.args.words.now arm.file.now (settings_value arm.settings) (rows_value arm.rows)
+    (plus_workers_within c.args.words.now arm.file.now arm.settings arm.rows
     (sym arm.ensures ∙ ap (λ (command : Command). Some (command_value command)) arm.field-0-is)).0
 
 pub of-rows-requires-in-Some-Plus-clause-few : goal.of-rows-requires-in-Some-Plus-clause-few
 of-rows-requires-in-Some-Plus-clause-few g c κs at =
     let arm = c.in-Some-Plus in
-    (plus_workers_within c.args.words.now arm.file.now (settings_value arm.settings) (rows_value arm.rows)
+    (plus_workers_within c.args.words.now arm.file.now arm.settings arm.rows
     (sym arm.ensures ∙ ap (λ (command : Command). Some (command_value command)) arm.field-0-is)).1
 
 pub of-rows-requires-in-Some-Drill-clause-some : goal.of-rows-requires-in-Some-Drill-clause-some
 of-rows-requires-in-Some-Drill-clause-some g c κs at =
     let arm = c.in-Some-Drill in
-    (drill_workers_within c.args.words.now arm.cards (settings_value arm.settings) (rows_value arm.rows)
+    (drill_workers_within c.args.words.now arm.cards arm.settings arm.rows
     (sym arm.ensures ∙ ap (λ (command : Command). Some (command_value command)) arm.field-0-is)).0
 
 pub of-rows-requires-in-Some-Drill-clause-few : goal.of-rows-requires-in-Some-Drill-clause-few
 of-rows-requires-in-Some-Drill-clause-few g c κs at =
     let arm = c.in-Some-Drill in
-    (drill_workers_within c.args.words.now arm.cards (settings_value arm.settings) (rows_value arm.rows)
+    (drill_workers_within c.args.words.now arm.cards arm.settings arm.rows
     (sym arm.ensures ∙ ap (λ (command : Command). Some (command_value command)) arm.field-0-is)).1
 
 pub drill-requires-clause-limits : goal.drill-requires-clause-limits
 drill-requires-clause-limits g c κs at =
     let arm = c.in-Some-Drill in
-    drill_within c.args.words.now arm.cards (settings_value arm.settings) (rows_value arm.rows) c.asked-in-Some-Drill.result
+    drill_within c.args.words.now arm.cards arm.settings arm.rows
     (sym arm.ensures ∙ ap (λ (command : Command). Some (command_value command)) arm.field-0-is)
-    c.asked-in-Some-Drill.ensures
 
 pub returns-in-Some-Check-clause-concludes : goal.returns-in-Some-Check-clause-concludes
 returns-in-Some-Check-clause-concludes g c =
@@ -91,29 +90,28 @@ returns-in-Some-Drill-clause-concludes g c =
     let files : FilesCall =
     files_call g.F.Files c.args.files.now c.args.files.now in
     let range =
-    cards_in_range.of_drill c.args.words.now arm.cards (settings_value arm.settings) (rows_value arm.rows)
+    cards_in_range.of_drill c.args.words.now arm.cards arm.settings arm.rows
     (sym arm.ensures ∙ ap (λ (command : Command). Some (command_value command)) arm.field-0-is) in
-    let text : GameFile → List ℕ = solved (settings_value arm.settings) in
+    let text : GameFile → List ℕ = solved arm.settings in
     let out : SinkCall = sink_call g.O.Sink c.args.out.now c.drill.new.out in
     by_command c.args.words.now (g.F.Files.told c.args.files.now) files out
-    (Some (grammar.Drill arm.cards (settings_value arm.settings) (rows_value arm.rows)))
+    (Some (grammar.Drill arm.cards arm.settings arm.rows))
     (sym (sym arm.ensures ∙ ap (λ (command : Command). Some (command_value command)) arm.field-0-is)) c.drill.result
     (text_told (FileMeans text (canon (poker arm.cards))) files out refl (text (poker arm.cards))
     (poker_is_told arm.cards range.some range.few text) c.drill.result
-    (subst (λ (s : grammar.Settings). Tells (solved s (poker arm.cards)) out c.drill.result)
-    c.asked-in-Some-Drill.ensures c.drill.ensures))
+    c.drill.ensures)
 
 pub solve-requires-clause-limits : goal.solve-requires-clause-limits
 solve-requires-clause-limits g c κs at =
     let arm = c.in-Some-Solve in
-    asked_within c.args.words.now arm.file.now (settings_value arm.settings) (rows_value arm.rows) c.asked-settings.result
-    (sym arm.ensures ∙ ap (λ (command : Command). Some (command_value command)) arm.field-0-is) c.asked-settings.ensures
+    solve_within c.args.words.now arm.file.now arm.settings arm.rows
+    (sym arm.ensures ∙ ap (λ (command : Command). Some (command_value command)) arm.field-0-is)
 
 pub solve-requires-in-Some-Plus-clause-limits : goal.solve-requires-in-Some-Plus-clause-limits
 solve-requires-in-Some-Plus-clause-limits g c κs at =
     let arm = c.in-Some-Plus in
-    plus_within c.args.words.now arm.file.now (settings_value arm.settings) (rows_value arm.rows) c.asked-settings-in-Some-Plus.result
-    (sym arm.ensures ∙ ap (λ (command : Command). Some (command_value command)) arm.field-0-is) c.asked-settings-in-Some-Plus.ensures
+    plus_within c.args.words.now arm.file.now arm.settings arm.rows
+    (sym arm.ensures ∙ ap (λ (command : Command). Some (command_value command)) arm.field-0-is)
 
 pub returns-in-Some-Solve-clause-concludes : goal.returns-in-Some-Solve-clause-concludes
 returns-in-Some-Solve-clause-concludes g c =
@@ -123,10 +121,9 @@ returns-in-Some-Solve-clause-concludes g c =
     files_call g.F.Files c.args.files.now c.solve.new.files in
     let out : SinkCall = sink_call g.O.Sink c.args.out.now c.solve.new.out in
     by_command c.args.words.now told files out
-    (Some (grammar.Solve arm.file.now (settings_value arm.settings) (rows_value arm.rows)))
+    (Some (grammar.Solve arm.file.now arm.settings arm.rows))
     (sym (sym arm.ensures ∙ ap (λ (command : Command). Some (command_value command)) arm.field-0-is)) c.solve.result
-    (subst (λ (s : grammar.Settings). Concludes ⊥ (FileTold (played variants.Plain s) (told arm.file.now)) files out c.solve.result)
-    c.asked-settings.ensures c.solve.ensures.concludes)
+    c.solve.ensures.concludes
 
 pub returns-in-Some-Plus-clause-concludes : goal.returns-in-Some-Plus-clause-concludes
 returns-in-Some-Plus-clause-concludes g c =
@@ -136,10 +133,9 @@ returns-in-Some-Plus-clause-concludes g c =
     files_call g.F.Files c.args.files.now c.solve-in-Some-Plus.new.files in
     let out : SinkCall = sink_call g.O.Sink c.args.out.now c.solve-in-Some-Plus.new.out in
     by_command c.args.words.now told files out
-    (Some (grammar.Plus arm.file.now (settings_value arm.settings) (rows_value arm.rows)))
+    (Some (grammar.Plus arm.file.now arm.settings arm.rows))
     (sym (sym arm.ensures ∙ ap (λ (command : Command). Some (command_value command)) arm.field-0-is)) c.solve-in-Some-Plus.result
-    (subst (λ (s : grammar.Settings). Concludes ⊥ (FileTold (played variants.Plus s) (told arm.file.now)) files out c.solve-in-Some-Plus.result)
-    c.asked-settings-in-Some-Plus.ensures c.solve-in-Some-Plus.ensures.concludes)
+    c.solve-in-Some-Plus.ensures.concludes
 
 pub batch-requires-clause-may_open : goal.batch-requires-clause-may_open
 batch-requires-clause-may_open g c κs at =
@@ -154,14 +150,14 @@ batch-requires-clause-may_open g c κs at =
 pub batch-requires-clause-limits : goal.batch-requires-clause-limits
 batch-requires-clause-limits g c κs at =
     let arm = c.in-Some-Batch in
-    batch_within c.args.words.now (plain_value arm.names) (settings_value arm.settings) arm.workers c.asked.result
-    (sym arm.ensures ∙ ap (λ (command : Command). Some (command_value command)) arm.field-0-is) c.asked.ensures
+    batch_within c.args.words.now (plain_value arm.names) arm.settings arm.workers
+    (sym arm.ensures ∙ ap (λ (command : Command). Some (command_value command)) arm.field-0-is)
 
 pub batch-requires-clause-workers : goal.batch-requires-clause-workers
 batch-requires-clause-workers g c κs at =
     let arm = c.in-Some-Batch in
     subst (λ n. (1 ≤ n) × (n ≤ most_workers)) (sym c.unwrap_or-workers.ensures)
-    (batch_workers_within c.args.words.now (plain_value arm.names) (settings_value arm.settings) arm.workers
+    (batch_workers_within c.args.words.now (plain_value arm.names) arm.settings arm.workers
     (sym arm.ensures ∙ ap (λ (command : Command). Some (command_value command)) arm.field-0-is))
 
 pub returns-in-Some-Batch-clause-concludes : goal.returns-in-Some-Batch-clause-concludes
@@ -175,10 +171,10 @@ returns-in-Some-Batch-clause-concludes g c =
     let are : map (λ (name : Bor (List ℕ)). told name.now) names ≡ map told (plain_value arm.names) =
     ap (map (λ (name : Bor (List ℕ)). told name.now)) c.deref.ensures.0 ∙ told_of_names told arm.names.items in
     by_command c.args.words.now told files out
-    (Some (grammar.Batch (plain_value arm.names) (settings_value arm.settings) arm.workers))
+    (Some (grammar.Batch (plain_value arm.names) arm.settings arm.workers))
     (sym (sym arm.ensures ∙ ap (λ (command : Command). Some (command_value command)) arm.field-0-is)) c.batch.result
-    (subst (λ (told_all : List (Option (List ℕ))). Concludes ⊥ (AllMean (settings_value arm.settings) told_all) files out c.batch.result) are
-    (subst (λ (s : grammar.Settings). Concludes ⊥ (AllMean s contents) files out c.batch.result) c.asked.ensures c.batch.ensures.concludes))
+    (subst (λ (told_all : List (Option (List ℕ))). Concludes ⊥ (AllMean arm.settings told_all) files out c.batch.result) are
+    c.batch.ensures.concludes)
 
 pub returns-in-Some-Info-clause-concludes : goal.returns-in-Some-Info-clause-concludes
 returns-in-Some-Info-clause-concludes g c =
@@ -210,7 +206,7 @@ pub returns-in-Some-Solve-clause-opens : goal.returns-in-Some-Solve-clause-opens
 returns-in-Some-Solve-clause-opens g c =
     let arm = c.in-Some-Solve in
     opens_named c.args.words.now (files_call g.F.Files c.args.files.now c.solve.new.files)
-    (grammar.Solve arm.file.now (settings_value arm.settings) (rows_value arm.rows))
+    (grammar.Solve arm.file.now arm.settings arm.rows)
     (sym (sym arm.ensures ∙ ap (λ (command : Command). Some (command_value command)) arm.field-0-is))
     c.solve.ensures.opens
 

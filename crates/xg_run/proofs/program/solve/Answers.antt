@@ -1,21 +1,20 @@
 use Rattle.std.proofs.Common.{Err, refl, ap}
 use Rattle.xg_io.specs.Calls.{files_call, sink_call}
 use Rattle.def_program.specs.Program.{played}
-use Rattle.xg_load.specs.Settings.{settings_seen}
 use Rattle.xg_run.proofs.Solved.{ended, turned_down}
 use Rattle.xg_run.proofs.program.solve.Goals as goal
 
 pub returns-in-Ok-clause-concludes : goal.returns-in-Ok-clause-concludes
 returns-in-Ok-clause-concludes g c =
-    ended (played c.args.variant (settings_seen c.args.settings)) (g.F.Files.told c.args.files.now c.args.file.now)
+    ended (played c.args.variant c.args.settings) (g.F.Files.told c.args.files.now c.args.file.now)
     (files_call g.F.Files c.args.files.now c.load.new.files)
     (sink_call g.O.Sink c.args.out.now c.play.new.out)
     c.in-Ok.ensures.cause c.in-Ok.accepted c.in-Ok.ensures.exact
-    (played c.args.variant (settings_seen c.args.settings) c.in-Ok.accepted) refl c.play.result c.play.ensures
+    (played c.args.variant c.args.settings c.in-Ok.accepted) refl c.play.result c.play.ensures
 
 pub returns-in-Err-clause-concludes : goal.returns-in-Err-clause-concludes
 returns-in-Err-clause-concludes g c =
-    turned_down (played c.args.variant (settings_seen c.args.settings)) (g.F.Files.told c.args.files.now c.args.file.now)
+    turned_down (played c.args.variant c.args.settings) (g.F.Files.told c.args.files.now c.args.file.now)
     (files_call g.F.Files c.args.files.now c.load.new.files)
     (sink_call g.O.Sink c.args.out.now c.args.out.now) (refl, refl)
     c.in-Err.fault c.of_unloaded.result c.of_unloaded.ensures c.in-Err.ensures.exact
