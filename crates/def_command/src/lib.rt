@@ -1,4 +1,5 @@
-//! The words that the program is called with and what they ask for, in definitions alone. Its laws and worked rows are in
+//! The words that the program is called with and what they ask for, in definitions alone. Its laws and worked rows are
+//! in
 //! `def_text_laws`.
 #![tactic(auto)]
 

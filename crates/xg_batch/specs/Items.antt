@@ -37,7 +37,8 @@ pub record IsPlayedEngine (settings : Settings) (game : WeighedGame) (engine : E
 
 -- the file is accepted and its game solved, or it has this first fault
 abbrev pub IsItemOf : Settings → BatchEntry → Item → Type 0
-IsItemOf settings entry (Solved engine) = IsOkAnd (item_of entry) (λ game. IsPlayedEngine settings (weighed_game game) engine)
+IsItemOf settings entry (Solved engine) = IsOkAnd (item_of entry)
+    (λ game. IsPlayedEngine settings (weighed_game game) engine)
 IsItemOf settings entry (Refused fault) = item_of entry ≡ Err fault
 
 abbrev pub AreItemsOf : Settings → List Entry → List Item → Type 0
@@ -45,7 +46,8 @@ AreItemsOf settings entries items = AllZip (λ entry item. IsItemOf settings (ba
 
 -- ---- the same of a game that was read
 abbrev pub IsItemOfGame : Settings → GameFile → Item → Type 0
-IsItemOfGame settings game (Solved engine) = (game_file_fault game ≡ None) × IsPlayedEngine settings (weighed_game game) engine
+IsItemOfGame settings game (Solved engine) = (game_file_fault game ≡ None)
+    × IsPlayedEngine settings (weighed_game game) engine
 IsItemOfGame settings game (Refused fault) = game_file_fault game ≡ Some fault
 
 -- and of one in numbers

@@ -2,7 +2,8 @@
 --     share workers number below        the files of a worker below a number: those that leave its number
 --     HoldsShare batch number below     the items of those files
 --     HasItemsFrom batch first items    the items of the files from one on, the last one's first
-use Rattle.std.specs.Prelude.{◌≡◌, ℕ, ◌-◌, ◌%◌, ◌<◌, ◌≤◌, ◌==◌, zero, suc, if◌then◌else◌, false, List, [], ◌∷◌, ◌++◌, length, reverse, slice_get, slice_index_or, All, IsSomeAnd}
+use Rattle.std.specs.Prelude.{◌≡◌, ℕ, ◌-◌, ◌%◌, ◌<◌, ◌≤◌, ◌==◌, zero, suc, if◌then◌else◌, false, List, [], ◌∷◌, ◌++◌}
+use Rattle.std.specs.Prelude.{length, reverse, slice_get, slice_index_or, All, IsSomeAnd}
 use Rattle.std.specs.List.{AllZip, range_with_len}
 use Rattle.def_file.specs.Reading.{most_bytes}
 use Rattle.def_sums.specs.Limits.{most_workers}

@@ -1,5 +1,6 @@
 //! All workers of a batch.
-ghost use Rattle.std.specs.Prelude.{◌≡◌, ◌≤◌, ◌<◌, ◌+◌, [], All, IfOk, OnOk, length, vec_capacity, vec_len, IsTrue, false};
+ghost use Rattle.std.specs.Prelude.{◌≡◌, ◌≤◌, ◌<◌, ◌+◌, [], All, IfOk, OnOk, length, vec_capacity, vec_len, IsTrue};
+ghost use Rattle.std.specs.Prelude.{false};
 ghost use Rattle.std.specs.Thread.{IsSync};
 ghost use Rattle.xg_batch.specs.Items.{AreItemsOf};
 ghost use Rattle.xg_batch.specs.Shares.{CanBeSolved, HasItemsFrom, HasShare, HaveShares, HaveSharesBelow};

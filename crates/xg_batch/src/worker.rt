@@ -1,5 +1,6 @@
 //! A worker of a batch: it solves its files, one after the other, and keeps their items.
-ghost use Rattle.std.specs.Prelude.{◌≡◌, ◌≤◌, ◌<◌, ◌+◌, ◌%◌, ◌^◌, IfOk, OnOk, Some, None, [], ◌∷◌, ◌++◌, length, vec_len};
+ghost use Rattle.std.specs.Prelude.{◌≡◌, ◌≤◌, ◌<◌, ◌+◌, ◌%◌, ◌^◌, IfOk, OnOk, Some, None, [], ◌∷◌, ◌++◌, length};
+ghost use Rattle.std.specs.Prelude.{vec_len};
 ghost use Rattle.std.specs.Thread.{IsSync};
 ghost use Rattle.def_file.specs.Reading.{most_bytes};
 ghost use Rattle.def_batch.specs.Batch.{Kept};

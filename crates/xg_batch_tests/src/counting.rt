@@ -5,8 +5,8 @@ use std::sync::atomic::{AtomicU64, Ordering};
 use std::thread::Threads;
 use xg_io::Gate;
 
-/// Counts how often workers pass before files that are theirs, where file `i` is for worker `i mod workers`, and how often
-/// before others.
+/// Counts how often workers pass before files that are theirs, where file `i` is for worker `i mod workers`, and how
+/// often before others.
 #[derive(Drop)]
 pub struct CountedPasses {
     workers: u32,

@@ -1,5 +1,6 @@
 -- Numbers as fields.
-use Rattle.std.proofs.Common.{◌≡◌, ℕ, suc, ◌+◌, ◌/◌, ◌^◌, ◌<◌, ◌≤◌, ◌≤ℤ◌, true, false, leb, List, ◌∷◌, length, get_or, drop, drop-cons, Option, Some, None, Ok, ℤ, pos, negsuc, unsigned_abs, IsTrue, refl, sym, ap, ◌∙◌, subst, arith, ⊎_elim}
+use Rattle.std.proofs.Common.{◌≡◌, ℕ, suc, ◌+◌, ◌/◌, ◌^◌, ◌<◌, ◌≤◌, ◌≤ℤ◌, true, false, leb, List, ◌∷◌, length, get_or, drop, drop-cons, Option, Some, None, Ok}
+use Rattle.std.proofs.Common.{ℤ, pos, negsuc, unsigned_abs, IsTrue, refl, sym, ap, ◌∙◌, subst, arith, ⊎_elim}
 use Rattle.std.specs.Char.{is_ascii_digit}
 use Rattle.std.specs.Str.{all_ascii_digits}
 use Rattle.std.proofs.Math.Nat.{div-lt_self}
@@ -73,7 +74,12 @@ read_wider : (narrow wide : ℕ) (bytes : List ℕ) (f : Fraction) → 1 ≤ nar
 read_wider narrow wide bytes f one wider small e =
     let p = fraction_only narrow f bytes (omega arith) one e in
     let is = p.0 in (
-      ap (fraction_in wide) p.1 ∙ fraction_again wide f small (record { positive = is.positive; coprime = is.coprime; num = omega (arith, is.num); den = omega (arith, is.den) }),
+      ap (fraction_in wide) p.1 ∙ fraction_again wide f small (record {
+        positive = is.positive;
+        coprime = is.coprime;
+        num = omega (arith, is.num);
+        den = omega (arith, is.den);
+      }),
       is.num,
       is.den,
     )

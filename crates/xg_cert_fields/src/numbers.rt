@@ -6,7 +6,8 @@ ghost use Rattle.std.specs.Str.{all_ascii_digits};
 ghost use Rattle.def_fraction.specs.Digits.{is_numeral, number_of};
 ghost use Rattle.def_fraction.specs.Fraction.{fits, most, whole_number};
 ghost use Rattle.def_cert_text.specs.CertText.{version_in};
-ghost use Rattle.def_cert_text.specs.Numbers.{fraction_in, integer_in, is_no_slash, leads_no_zero, nonzero_in, over_in, whole_in};
+ghost use Rattle.def_cert_text.specs.Numbers.{fraction_in, integer_in, is_no_slash, leads_no_zero, nonzero_in, over_in};
+ghost use Rattle.def_cert_text.specs.Numbers.{whole_in};
 ghost use Rattle.xg_frac.specs.Scan.{past_all};
 ghost use Rattle.def_cert_verdict.specs.Ranges.{most_printed};
 

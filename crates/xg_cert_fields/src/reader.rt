@@ -2,7 +2,8 @@
 ghost use Rattle.std.specs.Prelude.{◌≡◌, ◌<◌, ◌≤◌, ◌-◌, length, IfOk, Some};
 ghost use Rattle.std.specs.List.{prefix_len};
 ghost use Rattle.def_cert_text.specs.Fields.{fixed_word, number, is_field_byte, read_field, separated_by};
-ghost use Rattle.def_cert_text.specs.Formats.{fixed_field, whole_field, integer_field, fraction_field, nonzero_field, read_number};
+ghost use Rattle.def_cert_text.specs.Formats.{fixed_field, whole_field, integer_field, fraction_field, nonzero_field};
+ghost use Rattle.def_cert_text.specs.Formats.{read_number};
 ghost use Rattle.def_cert_text.specs.CertText.{if_at_end, version_field};
 ghost use Rattle.def_fraction.specs.Fraction.{most};
 ghost use Rattle.def_cert_verdict.specs.Ranges.{most_printed};
@@ -253,7 +254,8 @@ impl<'a> FieldReader<'a> {
     /// A value that was read, where its separator is the first byte of what is left.
     fn behind<T: Copy>(&mut self, value: T, left: &'a [u8], separator: u8) -> Result<T, CertFault>
         requires { length left.now ≤ self.old.total }
-        ensures exact { GivesValue (λ v. v) result self.new.left (separated_by separator self.old.total value left.now) }
+        ensures exact { GivesValue (λ v. v) result self.new.left
+            (separated_by separator self.old.total value left.now) }
         ensures total { self.new.total ≡ self.old.total }
     {
         let [first, rest @ ..] = left else {

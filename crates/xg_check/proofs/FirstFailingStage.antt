@@ -27,7 +27,8 @@ pub bounds_parts : (game : WeighedGame) (first scale : ℕ) (b : PrintedBounds)
 bounds_parts game first scale b =
     let lines = trace_tests first b.trace in
     append_assoc (tests_of_plan One game scale b) (tests_of_plan Two game scale b) (tests_of_replies game b ++ lines)
-    ∙ ap (λ ts. tests_of_plan One game scale b ++ (tests_of_plan Two game scale b ++ ts)) (append_assoc (tests_of_reply Two game b) (tests_of_reply One game b) lines)
+    ∙ ap (λ ts. tests_of_plan One game scale b ++ (tests_of_plan Two game scale b ++ ts))
+    (append_assoc (tests_of_reply Two game b) (tests_of_reply One game b) lines)
 
 -- the same fault, memory apart
 pub if_ok_same : {E : Type 0} (r : Result (Option TestFault) E) (a b : Option TestFault) → a ≡ b → IfOk r (λ f. f ≡ a)

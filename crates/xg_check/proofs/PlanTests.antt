@@ -1,5 +1,6 @@
 -- How many numbers each set of a printed plan has.
-use Rattle.std.proofs.Common.{◌≡◌, ◌≢◌, ℕ, ◌+◌, ◌-◌, ◌<◌, ◌≤◌, Bool, true, false, cond, eqb, List, [], ◌∷◌, length, get_or, slice_index, drop, map, Option, Some, None, slice_get, All, refl, sym, ap, ◌∙◌, arith, eqb-true, eq-eqb, ne_eqb}
+use Rattle.std.proofs.Common.{◌≡◌, ◌≢◌, ℕ, ◌+◌, ◌-◌, ◌<◌, ◌≤◌, Bool, true, false, cond, eqb, List, [], ◌∷◌, length, get_or, slice_index, drop, map, Option}
+use Rattle.std.proofs.Common.{Some, None, slice_get, All, refl, sym, ap, ◌∙◌, arith, eqb-true, eq-eqb, ne_eqb}
 use Rattle.std.proofs.lemmas.List.{drop_more, drop_all, get_or-map, length-append}
 use Rattle.std.proofs.lemmas.List.Elements.{All-append, All-cons, All-head, All-nil, All-tail}
 use Rattle.std.proofs.lemmas.Option.{get_or_from_slice_get}
@@ -96,4 +97,5 @@ joined_small (ws ∷ wss) f =
 pub numbers_small : (sets : ℕ) (plan : PrintedPlan) → PlanFits sets plan → (s : ℕ)
     → slice_index (printed_numbers plan) s ≤ most_root
 numbers_small sets plan fits s =
-    slice_index-at_most most_root (printed_numbers plan) (All-cons (λ n. n ≤ most_root) plan.root (joined plan.weights) fits.root.1 (joined_small plan.weights fits.each)) s
+    slice_index-at_most most_root (printed_numbers plan) (All-cons (λ n. n ≤ most_root) plan.root (joined plan.weights) fits.root.1
+    (joined_small plan.weights fits.each)) s

@@ -33,7 +33,8 @@ pub values_small : (rs : List SetReply) → All (λ r. IsPrintable r.value) rs
     → All (λ v. unsigned_abs v ≤ 2 ^ 100) (values_of rs)
 values_small [] all = All-nil (λ v. unsigned_abs v ≤ 2 ^ 100)
 values_small (r ∷ rs) all =
-    All-cons (λ v. unsigned_abs v ≤ 2 ^ 100) r.value (values_of rs) (All-head (λ (q : SetReply). IsPrintable q.value) r rs all) (values_small rs (All-tail (λ (q : SetReply). IsPrintable q.value) r rs all))
+    All-cons (λ v. unsigned_abs v ≤ 2 ^ 100) r.value (values_of rs) (All-head (λ (q : SetReply). IsPrintable q.value) r rs all)
+    (values_small rs (All-tail (λ (q : SetReply). IsPrintable q.value) r rs all))
 
 -- the bounds of a certificate within its ranges
 pub bounds_fit : (c : Certificate) → CertificateFits c → c.bounds ≡ Some (bounds_in c) → BoundsFit c.head (bounds_in c)

@@ -1,5 +1,6 @@
 -- The first failing test, one action and one set after the other.
-use Rattle.std.proofs.Common.{◌≡◌, ℕ, zero, suc, ◌+◌, ◌-◌, ◌<◌, ◌≤◌, Bool, true, false, cond, leb, ◌&&◌, List, [], ◌∷◌, ◌++◌, length, get_or, drop, map, Option, Some, None, ℤ, pos, refl, sym, ap, ◌∙◌, arith}
+use Rattle.std.proofs.Common.{◌≡◌, ℕ, zero, suc, ◌+◌, ◌-◌, ◌<◌, ◌≤◌, Bool, true, false, cond, leb, ◌&&◌, List, [], ◌∷◌, ◌++◌, length, get_or, drop, map, Option}
+use Rattle.std.proofs.Common.{Some, None, ℤ, pos, refl, sym, ap, ◌∙◌, arith}
 use Rattle.std.specs.Prelude.{is_some}
 use Rattle.std.specs.List.{range_with_len}
 use Rattle.std.specs.Ordering.{int_eq}
@@ -11,7 +12,8 @@ use Rattle.def_fraction.specs.Fraction.{Fraction, fraction_of}
 use Rattle.def_reply.specs.Reply.{SetReply, choices_of, values_of}
 use Rattle.def_cert_verdict.specs.declared.fault.TestFault.{TestFault}
 use Rattle.def_cert_verdict.specs.declared.fault.TestFault.TheVariants.{ReplyNotTight, TotalDiffers, ValueTooGood}
-use Rattle.def_cert_verdict.specs.Verdict.{action_test, end_shown_by, first_failing, is_better, is_same_fraction, reply_tests, set_tests, unless, whole_reply_tests}
+use Rattle.def_cert_verdict.specs.Verdict.{action_test, end_shown_by, first_failing, is_better, is_same_fraction, reply_tests, set_tests, unless}
+use Rattle.def_cert_verdict.specs.Verdict.{whole_reply_tests}
 use Rattle.xg_plan.specs.Reply.{set_replies}
 use Rattle.xg_plan.proofs.ReplyLemmas.{values-set_replies}
 use Rattle.xg_check.specs.Views.{printed_reply, row}

@@ -89,7 +89,8 @@ found player s leaves against zero i e =
 found player s leaves against (suc k) i e =
     let below : i < length leaves = omega (arith, e) in
     subst (IsNextBehind player s i leaves against) (sym (ap (first_leaf_from player s (i + 1)) (split player s leaves against i below)))
-    (by_test player s leaves against i below (found player s leaves against k (i + 1) (omega (arith, e))) (eqb (leaf_sequence player (get_or leaves i no_leaf)) s) refl)
+    (by_test player s leaves against i below (found player s leaves against k (i + 1) (omega (arith, e)))
+    (eqb (leaf_sequence player (get_or leaves i no_leaf)) s) refl)
 
 -- the next leaf of a thread after leaf z
 next_behind : (player : Player) (s : ℕ) (leaves : List Leaf) (against : List ℕ) (z : ℕ) → z ≤ length leaves
@@ -150,7 +151,8 @@ sum_here player leaves against sums z y low high is has =
     let more : leaf_sum player (drop (z - 1) leaves) against s ≡ paid_at_leaf player against y +ℤ leaf_sum player (drop z leaves) against s =
     leaf_here player s leaves against (z - 1) below
     ∙ ap (λ t. t +ℤ leaf_sum player (drop (z - 1 + 1) leaves) against s)
-    (cond-true (eqb (leaf_sequence player x) s) (paid_at_leaf player against x) (pos 0) (eq-eqb (leaf_sequence player x) s own) ∙ ap (paid_at_leaf player against) y_is)
+    (cond-true (eqb (leaf_sequence player x) s) (paid_at_leaf player against x) (pos 0) (eq-eqb (leaf_sequence player x) s own)
+    ∙ ap (paid_at_leaf player against) y_is)
     ∙ ap (λ k. paid_at_leaf player against y +ℤ leaf_sum player (drop k leaves) against s) z_is in
     ap (λ t. paid_at_leaf player against y +ℤ t) rest ∙ sym more
 
@@ -184,7 +186,8 @@ pub leaf_there : (form : SequenceForm) (player : Player) (z : ℕ) (y : Leaf) �
     → leaf_sequence player y < sequence_count (player_sets form player)
 leaf_there form player z y all low high is =
     let below : z - 1 < length form.leaves = omega (arith, low, high) in
-    sequence_there form player y (subst (HasSequences form) (get_or_from_slice_get form.leaves (z - 1) y y is) (All-get_or (HasSequences form) form.leaves (z - 1) y below all))
+    sequence_there form player y (subst (HasSequences form) (get_or_from_slice_get form.leaves (z - 1) y y is)
+    (All-get_or (HasSequences form) form.leaves (z - 1) y below all))
 
 -- ---- rows
 -- the rows before row k have what is added to them, and the others are as they were
@@ -224,7 +227,14 @@ pub row_stays_small : (k : ℕ) (before now next : List ℤ) (sums : ℕ → ℤ
 row_stays_small k before now next sums most none below small a size s =
     ⊎_elim
     (λ here.
-    omega (arith, ap unsigned_abs (added_here now next k s (sums k) a here), unsigned_abs-+ℤ (row now s) (sums k), ap unsigned_abs (below.same s (omega (arith, here))), none s, size))
+    omega (
+      arith,
+      ap unsigned_abs (added_here now next k s (sums k) a here),
+      unsigned_abs-+ℤ (row now s) (sums k),
+      ap unsigned_abs (below.same s (omega (arith, here))),
+      none s,
+      size,
+    ))
     (λ apart. omega (arith, ap unsigned_abs (added_elsewhere now next k s (sums k) a apart), small s))
     (cases_eq s k)
 
@@ -236,7 +246,8 @@ no_such_leaf form player against s [] all past = refl
 no_such_leaf form player against s (z ∷ zs) all past =
     let there : leaf_sequence player z < sequence_count (player_sets form player) = sequence_there form player z (All-head (HasSequences form) z zs all) in
     leaf_more player z zs against s
-    ∙ ap (λ t. t +ℤ leaf_sum player zs against s) (cond-false (eqb (leaf_sequence player z) s) (paid_at_leaf player against z) (pos 0) (ne_eqb (leaf_sequence player z) s (λ e. absurd (omega (arith, e, there, past)))))
+    ∙ ap (λ t. t +ℤ leaf_sum player zs against s) (cond-false (eqb (leaf_sequence player z) s) (paid_at_leaf player against z) (pos 0)
+    (ne_eqb (leaf_sequence player z) s (λ e. absurd (omega (arith, e, there, past)))))
     ∙ zero-+ℤ (leaf_sum player zs against s)
     ∙ no_such_leaf form player against s zs (All-tail (HasSequences form) z zs all) past
 

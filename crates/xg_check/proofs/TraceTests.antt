@@ -21,9 +21,11 @@ next_line first lines k d e from low =
     let again : get_or lines k d ∷ drop (k + 1) lines ≡ drop (k + 1 - 1) lines = sym there ∙ ap (λ i. drop i lines) (omega arith) in
     let both = here ∙ ap (λ ls. get_or lines (k - 1) e ∷ ls) there in
     ap (trace_tests (first + (k - 1))) both
-    ∙ ap (λ n. cond (is_wider (get_or lines k d) (get_or lines (k - 1) e)) (Some (TraceWidens n)) None ∷ trace_tests (first + (k - 1) + 1) (get_or lines k d ∷ drop (k + 1) lines)) (omega arith)
+    ∙ ap (λ n. cond (is_wider (get_or lines k d) (get_or lines (k - 1) e)) (Some (TraceWidens n)) None
+    ∷ trace_tests (first + (k - 1) + 1) (get_or lines k d ∷ drop (k + 1) lines)) (omega arith)
     ∙ ap (λ ls. cond (is_wider (get_or lines k d) (get_or lines (k - 1) e)) (Some (TraceWidens (first + k))) None ∷ trace_tests (first + (k - 1) + 1) ls) again
-    ∙ ap (λ n. cond (is_wider (get_or lines k d) (get_or lines (k - 1) e)) (Some (TraceWidens (first + k))) None ∷ trace_tests n (drop (k + 1 - 1) lines)) (omega arith)
+    ∙ ap (λ n. cond (is_wider (get_or lines k d) (get_or lines (k - 1) e)) (Some (TraceWidens (first + k))) None ∷ trace_tests n (drop (k + 1 - 1) lines))
+    (omega arith)
 
 -- a line that is wider than the one before it is the first fault of the tests from there on
 pub line_widens : (first : ℕ) (lines : List TraceLine) (k : ℕ) (d e : TraceLine) → 1 ≤ k → k < length lines

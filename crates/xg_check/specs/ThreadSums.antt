@@ -1,5 +1,6 @@
 -- Sums of leaves along threads, where the sum from each leaf on stands at its place.
-use Rattle.std.specs.Prelude.{◌≡◌, ℕ, ◌+◌, ◌-◌, ◌*◌, ◌^◌, ◌<◌, ◌≤◌, List, length, drop, ℤ, pos, unsigned_abs, Option, Some, None, IfSome}
+use Rattle.std.specs.Prelude.{◌≡◌, ℕ, ◌+◌, ◌-◌, ◌*◌, ◌^◌, ◌<◌, ◌≤◌, List, length, drop, ℤ, pos, unsigned_abs, Option}
+use Rattle.std.specs.Prelude.{Some, None, IfSome}
 use Rattle.def_tree.specs.declared.Player.{Player}
 use Rattle.def_plan.specs.Form.{Leaf}
 use Rattle.def_plan.specs.Payoff.{leaf_sum}

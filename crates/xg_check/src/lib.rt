@@ -1,6 +1,6 @@
 //! Checks a certificate against the file of a game. It plays no round and takes no least or greatest number: whoever
-//! wrote the certificate, what it accepts shows its bounds. The tests of plans and replies go over flat numbers: once over
-//! the leaves, those of one sequence after the other, once over the values and once over the actions.
+//! wrote the certificate, what it accepts shows its bounds. The tests of plans and replies go over flat numbers: once
+//! over the leaves, those of one sequence after the other, once over the values and once over the actions.
 #![tactic(auto)]
 
 mod adding;

@@ -1,5 +1,5 @@
-//! The program: `xg_close` reads a game file, searches plans of both players, and prints a certificate as narrow as it is
-//! asked. What it promises is the contract of `xg_close_run::run`.
+//! The program: `xg_close` reads a game file, searches plans of both players, and prints a certificate as narrow as it
+//! is asked. What it promises is the contract of `xg_close_run::run`.
 #![tactic(auto)]
 
 use std::alloc::Global;

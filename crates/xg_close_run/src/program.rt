@@ -50,8 +50,8 @@ pub fn run<F: Files, O: Sink, E: Sink>(
         (answer.status ≡ 0 → MayHaveFailed (sink_call O.Sink out.old out.new).faults → ⊥)
         → GoesWithInfo answer.status result) }
 
-    // A read fault is one fault of the files. Where they failed it is answered, memory apart. The file is opened once at
-    // the most.
+    // A read fault is one fault of the files. Where they failed it is answered, memory apart. The file is opened once
+    // at the most.
     ensures read_fault { result ≡ 3 → HasFailedOnce (files_call F.Files files.old files.new).faults }
     ensures files_failed { HasFailed (files_call F.Files files.old files.new).faults → EndsWith 3 result }
     ensures opens { OpensAtMost (files_call F.Files files.old files.new) 1 }

@@ -4,8 +4,8 @@ use clap::error::ErrorKind;
 use std::rt::Env;
 use std::{env, io};
 
-/// The words that the program was given, without its own name, or the status where they can't be had: 5 where memory ran
-/// out, and 2 where one isn't UTF-8.
+/// The words that the program was given, without its own name, or the status where they can't be had: 5 where memory
+/// ran out, and 2 where one isn't UTF-8.
 pub fn given_words<R: Env + AllocGlobal>(rt: &R) -> Result<Vec<String>, u8> {
     match words(rt) {
         Ok(words) => Ok(words),

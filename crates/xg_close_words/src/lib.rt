@@ -1,4 +1,5 @@
-//! The words of a call of `xg_close`, as `clap` reads them. What it says of words that it doesn't take, of `--help` and of
+//! The words of a call of `xg_close`, as `clap` reads them. What it says of words that it doesn't take, of `--help` and
+//! of
 //! `--version`, is its own: nothing is promised of these texts.
 #![tactic(auto)]
 

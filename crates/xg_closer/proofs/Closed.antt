@@ -1,5 +1,6 @@
 -- A closed round leaves the regrets of the player's own sums, which are kept.
-use Rattle.std.proofs.Common.{Option, Some, None, ◌≡◌, ℕ, ◌+◌, ◌*◌, ◌^◌, ◌<◌, ◌≤◌, List, [], ◌∷◌, ◌++◌, map, length, take, drop, ℤ, unsigned_abs, arith, refl, sym, subst, ap, ◌∙◌}
+use Rattle.std.proofs.Common.{Option, Some, None, ◌≡◌, ℕ, ◌+◌, ◌*◌, ◌^◌, ◌<◌, ◌≤◌, List, [], ◌∷◌, ◌++◌, map, length, take, drop, ℤ, unsigned_abs, arith, refl}
+use Rattle.std.proofs.Common.{sym, subst, ap, ◌∙◌}
 use Rattle.std.proofs.Math.Seq.{take-append_seam}
 use Rattle.def_sums.specs.Limits.{most_rounds}
 use Rattle.def_sums.specs.Sum.{nat_sum_over}

@@ -21,7 +21,8 @@ pub small_at : (sets : List InformationSet) (regrets : List ℤ) (m : ℕ) (h : 
     → ((s : ℕ) → unsigned_abs (regret_of regrets s) ≤ 2 ^ 98) → h.actions ≤ most_actions
     → units * regret_sum regrets h < 2 ^ 126
 small_at sets regrets m h at small few =
-    subst (λ (p : PlacedSet). p.actions ≤ 1024 → units * regret_sum regrets p < 2 ^ 126) at.is ((deals_within sets regrets small).each_set m no_place at.there) few
+    subst (λ (p : PlacedSet). p.actions ≤ 1024 → units * regret_sum regrets p < 2 ^ 126) at.is ((deals_within sets regrets small).each_set m no_place at.there)
+    few
 
 -- a set's sequences have the shares of all units by their regrets
 pub played_at : (sets : List InformationSet) (regrets : List ℤ) (m : ℕ) (h : PlacedSet) → IsAt sets m h → (i : ℕ)
@@ -29,5 +30,6 @@ pub played_at : (sets : List InformationSet) (regrets : List ℤ) (m : ℕ) (h :
     → slice_index (play_of sets regrets) (h.first + i) ≡ slice_index (set_play regrets h) i
 played_at sets regrets m h at i inside =
     let each : map (λ s. slice_index (play_of sets regrets) s) (sequences_of h) ≡ set_play regrets h =
-    subst (λ (p : PlacedSet). map (λ s. slice_index (play_of sets regrets) s) (sequences_of p) ≡ set_play regrets p) at.is ((plays_each_set sets regrets).each_set m no_place at.there) in
+    subst (λ (p : PlacedSet). map (λ s. slice_index (play_of sets regrets) s) (sequences_of p) ≡ set_play regrets p) at.is
+    ((plays_each_set sets regrets).each_set m no_place at.there) in
     sym (get_or-map-range_with_len (λ s. slice_index (play_of sets regrets) s) h.first h.actions i (h.first + i) 0 inside refl) ∙ ap (λ xs. get_or xs i 0) each

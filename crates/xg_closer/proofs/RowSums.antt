@@ -45,5 +45,6 @@ own_sizes player rows sets count =
     let many : sequence_count sets ≡ length sizes = sym count ∙ sym (length-map rows unsigned_abs) in
     ap (λ n. nat_sum_over (λ s. unsigned_abs (own_amount player rows s)) (range_with_len 0 n)) many
     ∙ nat_sum_over-read (λ s. unsigned_abs (own_amount player rows s)) 0 sizes
-    (λ i below. let same : 0 + i ≡ i = omega arith in ap (λ s. unsigned_abs (own_amount player rows s)) same ∙ size_of_own player rows i ∙ sym (get_or-map unsigned_abs rows i (pos 0) 0 (omega (arith, length-map rows unsigned_abs))))
+    (λ i below. let same : 0 + i ≡ i = omega arith in ap (λ s. unsigned_abs (own_amount player rows s)) same ∙ size_of_own player rows i
+    ∙ sym (get_or-map unsigned_abs rows i (pos 0) 0 (omega (arith, length-map rows unsigned_abs))))
     ∙ sizes_listed rows

@@ -20,7 +20,12 @@ grown_size regret v before grown small low = omega (arith, ints, small, low)
 module _ (player : Player) (rows worths : List ℤ) (sets : List InformationSet) (sizes : ℕ)
     (count : length rows ≡ sequence_count sets) (taken : AreTaken player rows worths sizes) where
   pub sums_within : size_of_sums (amount_of (map (λ worth. worth) worths)) sets ≤ sizes
-  sums_within = omega (arith, ap (λ ws. size_of_sums (amount_of ws) sets) (same_amounts worths), worths_together player rows sets count worths taken.each, taken.together)
+  sums_within = omega (
+    arith,
+    ap (λ ws. size_of_sums (amount_of ws) sets) (same_amounts worths),
+    worths_together player rows sets count worths taken.each,
+    taken.together,
+  )
 
   -- each number that is no larger than the sums together has room in 64 bits, also where it is added to a regret that is
   -- small enough
@@ -38,7 +43,12 @@ module _ (player : Player) (rows worths : List ℤ) (sets : List InformationSet)
       → after ≡ regrets_after (amount_of (map (λ worth. worth) worths)) play sets before
       → (s : ℕ) → unsigned_abs (regret_of after s) ≤ most + sizes
   regrets_within play before after most order all_units small is s =
-      omega (arith, ap (λ rs. unsigned_abs (regret_of rs s)) is, regrets_grow_by_the_sums (amount_of (map (λ worth. worth) worths)) play sets before most sizes order all_units sums_within small s)
+      omega (
+        arith,
+        ap (λ rs. unsigned_abs (regret_of rs s)) is,
+        regrets_grow_by_the_sums (amount_of (map (λ worth. worth) worths)) play sets before most sizes
+            order all_units sums_within small s,
+      )
 
 -- a number within 2 ^ 82 has room beside a regret that is within 2 ^ 126
 pub wide_fits : (regret v : ℤ) → unsigned_abs regret < 2 ^ 126 → unsigned_abs v ≤ 2 ^ 82 → FitsSigned w128 (regret +ℤ v)

@@ -10,12 +10,18 @@ use Rattle.def_sums.proofs.SumLaws.{sum_over-append, nat_sum_over-append, unsign
 pub range_more : (f : ℕ → ℤ) (a n : ℕ)
     → sum_over f (range_with_len a (n + 1)) ≡ sum_over f (range_with_len a n) +ℤ f (a + n)
 range_more f a n =
-    ap (sum_over f) (range-append a n 1) ∙ sum_over-append f (range_with_len a n) (range_with_len (a + n) 1) ∙ ap (λ t. sum_over f (range_with_len a n) +ℤ t) (+ℤ-zero (f (a + n)))
+    ap (sum_over f) (range-append a n 1) ∙ sum_over-append f (range_with_len a n) (range_with_len (a + n) 1)
+    ∙ ap (λ t. sum_over f (range_with_len a n) +ℤ t) (+ℤ-zero (f (a + n)))
 
 front : (g : ℕ → ℕ) (a n m : ℕ) → n ≤ m → nat_sum_over g (range_with_len a n) ≤ nat_sum_over g (range_with_len a m)
 front g a n m h =
     let e : n + (m - n) ≡ m = omega arith in
-    omega (arith, ap (λ k. nat_sum_over g (range_with_len a k)) e, ap (nat_sum_over g) (range-append a n (m - n)), nat_sum_over-append g (range_with_len a n) (range_with_len (a + n) (m - n)))
+    omega (
+      arith,
+      ap (λ k. nat_sum_over g (range_with_len a k)) e,
+      ap (nat_sum_over g) (range-append a n (m - n)),
+      nat_sum_over-append g (range_with_len a n) (range_with_len (a + n) (m - n)),
+    )
 
 -- the sum of the first ones is no larger than the sizes of all together
 pub front_size : (f : ℕ → ℤ) (a n m : ℕ) → n ≤ m

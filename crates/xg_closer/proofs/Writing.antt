@@ -23,7 +23,8 @@ plays_more first n shares before after share so_far inside is = record {
   given = λ i below.
       ⊎_elim
       (λ here. rw here (get_or-set_same after (first + n) share 0 inside ∙ is))
-      (λ there. let apart : first + i ≢ first + n = λ e. there (omega (arith, e)) in get_or-set_other after (first + n) (first + i) share 0 apart ∙ so_far.given i (omega arith))
+      (λ there. let apart : first + i ≢ first + n = λ e. there (omega (arith, e)) in get_or-set_other after (first + n) (first + i) share 0 apart
+      ∙ so_far.given i (omega arith))
       (cases_eq i n);
   earlier = λ s low. let apart : s ≢ first + n = omega arith in get_or-set_other after (first + n) s share 0 apart ∙ so_far.earlier s low;
   later = λ s from. let apart : s ≢ first + n = omega arith in get_or-set_other after (first + n) s share 0 apart ∙ so_far.later s (omega arith);

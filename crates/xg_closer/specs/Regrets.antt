@@ -1,5 +1,6 @@
 -- A player's regrets between rounds.
-use Rattle.std.specs.Prelude.{◌≡◌, ℕ, ◌+◌, ◌*◌, ◌≤◌, ℤ, pos, unsigned_abs, List, length, replicate, Option, Some, None, IfSome}
+use Rattle.std.specs.Prelude.{◌≡◌, ℕ, ◌+◌, ◌*◌, ◌≤◌, ℤ, pos, unsigned_abs, List, length, replicate, Option, Some, None}
+use Rattle.std.specs.Prelude.{IfSome}
 use Rattle.def_sums.specs.Limits.{most_rounds, most_round_row, most_small_rows}
 use Rattle.def_plan.specs.Form.{InformationSet, sequence_count}
 use Rattle.def_round.specs.Play.{regret_of}
@@ -20,7 +21,8 @@ kept_regrets None small wide = wide
 
 -- where it is known how large small regrets can be, none is larger, and all have room in 64 bits
 abbrev pub AreWithin : Option ℕ → List ℤ → Type 0
-AreWithin most small = IfSome most (λ most. (most ≤ most_small_rows) × ((s : ℕ) → unsigned_abs (regret_of small s) ≤ most))
+AreWithin most small = IfSome most (λ most. (most ≤ most_small_rows)
+    × ((s : ℕ) → unsigned_abs (regret_of small s) ≤ most))
 
 -- how large small regrets can be after a round whose rows have these sizes together
 pub record IsMostAfter (most sizes : Option ℕ) (more : ℕ) : Type 0 where

@@ -95,9 +95,11 @@ fn close_by_rows<A: Worth>(
     requires as_play { length play.now ≡ sequence_count (player_sets form.now player) }
     requires as_rows { length rows.now ≡ sequence_count (player_sets form.now player) }
     ensures regrets { regrets.new.of_sequences
-        ≡ regrets_after (own_amount player (map A.amount rows.now)) play.now (player_sets form.now player) regrets.old.of_sequences }
+        ≡ regrets_after (own_amount player (map A.amount rows.now)) play.now (player_sets form.now player)
+        regrets.old.of_sequences }
     ensures equations { let sets = player_sets form.now player in
-        IsRound (own_amount player (map A.amount rows.now)) play.now sets regrets.old.of_sequences regrets.new.of_sequences }
+        IsRound (own_amount player (map A.amount rows.now)) play.now sets regrets.old.of_sequences
+        regrets.new.of_sequences }
     ensures rounds { regrets.new.closed ≡ regrets.old.closed + 1 }
     ensures count { length regrets.new.of_sequences ≡ length regrets.old.of_sequences }
 {
@@ -372,10 +374,12 @@ fn close_set<W: Worth, R: Worth>(place: SetPlace, play: &[u32], worths: &mut [W]
     ensures other_worths { (s : ℕ) → (s ≡ place.before → ⊥)
         → amount_of (map W.amount worths.new) s ≡ amount_of (map W.amount worths.old) s }
     ensures regrets_count { length regrets.new ≡ length regrets.old }
-    ensures of_set { (s : ℕ) → place.first ≤ s → s < place.first + place.actions → regret_of (map R.amount regrets.new) s
+    ensures of_set { (s : ℕ) → place.first ≤ s → s < place.first + place.actions
+        → regret_of (map R.amount regrets.new) s
         ≡ regret_of (map R.amount regrets.old) s +ℤ (amount_of (map W.amount worths.old) s
         -ℤ value_by play.now (map W.amount worths.old) (placed_of_row place)) }
-    ensures before_set { (s : ℕ) → s < place.first → regret_of (map R.amount regrets.new) s ≡ regret_of (map R.amount regrets.old) s }
+    ensures before_set { (s : ℕ) → s < place.first → regret_of (map R.amount regrets.new) s
+        ≡ regret_of (map R.amount regrets.old) s }
     ensures after_set { (s : ℕ) → place.first + place.actions ≤ s
         → regret_of (map R.amount regrets.new) s ≡ regret_of (map R.amount regrets.old) s }
 {
@@ -439,8 +443,10 @@ fn add_regrets<W: Worth, R: Worth>(place: SetPlace, worths: &[W], value: i128, r
         (regret_of (map R.amount regrets.old) s +ℤ (amount_of (map W.amount worths.now) s -ℤ value)) }
     ensures count { length regrets.new ≡ length regrets.old }
     ensures of_set { (s : ℕ) → place.first ≤ s → s < place.first + place.actions
-        → regret_of (map R.amount regrets.new) s ≡ regret_of (map R.amount regrets.old) s +ℤ (amount_of (map W.amount worths.now) s -ℤ value) }
-    ensures before_set { (s : ℕ) → s < place.first → regret_of (map R.amount regrets.new) s ≡ regret_of (map R.amount regrets.old) s }
+        → regret_of (map R.amount regrets.new) s ≡ regret_of (map R.amount regrets.old) s
+        +ℤ (amount_of (map W.amount worths.now) s -ℤ value) }
+    ensures before_set { (s : ℕ) → s < place.first → regret_of (map R.amount regrets.new) s
+        ≡ regret_of (map R.amount regrets.old) s }
     ensures after_set { (s : ℕ) → place.first + place.actions ≤ s
         → regret_of (map R.amount regrets.new) s ≡ regret_of (map R.amount regrets.old) s }
 {
@@ -464,7 +470,8 @@ fn add_regret<W: Worth, R: Worth>(worths: &[W], value: i128, s: usize, regrets: 
     ensures count { length regrets.new ≡ length regrets.old }
     ensures here { regret_of (map R.amount regrets.new) s
         ≡ regret_of (map R.amount regrets.old) s +ℤ (amount_of (map W.amount worths.now) s -ℤ value) }
-    ensures others { (t : ℕ) → (t ≡ s → ⊥) → regret_of (map R.amount regrets.new) t ≡ regret_of (map R.amount regrets.old) t }
+    ensures others { (t : ℕ) → (t ≡ s → ⊥) → regret_of (map R.amount regrets.new) t
+        ≡ regret_of (map R.amount regrets.old) t }
 {
     add_worth(regrets, s, minus(worth_at(worths, s), value));
 }

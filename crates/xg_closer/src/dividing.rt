@@ -13,7 +13,8 @@ pub(crate) struct Inverse {
     near: u64,
 }
 
-/// The inverse of a sum, by a step of Newton's method from a table. Of a sum past 64 bits it is that of the lowest ones.
+/// The inverse of a sum, by a step of Newton's method from a table. Of a sum past 64 bits it is that of the lowest
+/// ones.
 pub(crate) fn inverse_of(sum: u128) -> Inverse {
     let low = (sum & u64::MAX as u128) as u64;
     let zeros = low.leading_zeros() & 63;

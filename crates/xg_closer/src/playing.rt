@@ -58,7 +58,8 @@ fn play_set<R: Worth>(place: SetPlace, regrets: &[R], play: &mut Play)
     requires as_many { length play.old ≡ length regrets.now }
     requires limit { length regrets.now ≤ most_sequences }
     requires small { units * regret_sum (map R.amount regrets.now) (placed_of_row place) < past_product }
-    ensures { PlaysSet (placed_of_row place) (set_play (map R.amount regrets.now) (placed_of_row place)) play.old play.new }
+    ensures { PlaysSet (placed_of_row place) (set_play (map R.amount regrets.now) (placed_of_row place)) play.old
+        play.new }
 {
     if place.actions == 2 {
         play_two(place, regrets, play);
@@ -107,7 +108,8 @@ fn play_by_parts<R: Worth>(place: SetPlace, regrets: &[R], sum: u128, play: &mut
     requires small { units * sum < past_product }
     requires whole { sum ≡ regret_sum (map R.amount regrets.now) (placed_of_row place) }
     requires some { 1 ≤ sum }
-    ensures { PlaysSet (placed_of_row place) (set_play (map R.amount regrets.now) (placed_of_row place)) play.old play.new }
+    ensures { PlaysSet (placed_of_row place) (set_play (map R.amount regrets.now) (placed_of_row place)) play.old
+        play.new }
 {
     let inverse = inverse_of(sum);
     // What is left is the last action's.
@@ -133,7 +135,8 @@ fn play_evenly<R: Worth>(place: SetPlace, regrets: &[R], play: &mut Play)
     requires as_many { length play.old ≡ length regrets.now }
     requires limit { length regrets.now ≤ most_sequences }
     requires none { regret_sum (map R.amount regrets.now) (placed_of_row place) ≡ 0 }
-    ensures { PlaysSet (placed_of_row place) (set_play (map R.amount regrets.now) (placed_of_row place)) play.old play.new }
+    ensures { PlaysSet (placed_of_row place) (set_play (map R.amount regrets.now) (placed_of_row place)) play.old
+        play.new }
 {
     let mut given = 0u32;
     for i in 0..place.actions {
@@ -150,7 +153,8 @@ fn play_two<R: Worth>(place: SetPlace, regrets: &[R], play: &mut Play)
     requires as_many { length play.old ≡ length regrets.now }
     requires limit { length regrets.now ≤ most_sequences }
     requires small { units * regret_sum (map R.amount regrets.now) (placed_of_row place) < past_product }
-    ensures { PlaysSet (placed_of_row place) (set_play (map R.amount regrets.now) (placed_of_row place)) play.old play.new }
+    ensures { PlaysSet (placed_of_row place) (set_play (map R.amount regrets.now) (placed_of_row place)) play.old
+        play.new }
 {
     let a = part_of(regrets, place.first);
     let b = part_of(regrets, place.first + 1);

@@ -1,7 +1,8 @@
 -- The commands and the options, as the grammar has them.
 use Rattle.def_command.specs.Table as table
 use Rattle.xg_command.specs.declared.names.CommandName.{CommandName}
-use Rattle.xg_command.specs.declared.names.CommandName.TheVariants.{Solve, Check, Upgrade, Info, Gen, Drill, Plus, Batch}
+use Rattle.xg_command.specs.declared.names.CommandName.TheVariants.{Solve, Check, Upgrade, Info, Gen, Drill, Plus}
+use Rattle.xg_command.specs.declared.names.CommandName.TheVariants.{Batch}
 use Rattle.xg_command.specs.declared.names.OptionName.{OptionName}
 use Rattle.xg_command.specs.declared.names.OptionName.TheVariants.{Rounds, Every, Scale, Workers, Atomic}
 

@@ -1,7 +1,8 @@
 //! Reading the words behind the command's, one after another.
 ghost use Rattle.std.specs.Prelude.{◌≡◌, None, map, option_map, string_bytes};
 ghost use Rattle.def_command.specs.Table as table;
-ghost use Rattle.def_command.specs.Grammar.{takes_nothing, take_plain, take_digits, read_option, around_equals, read_word, read_words, command_from};
+ghost use Rattle.def_command.specs.Grammar.{takes_nothing, take_plain, take_digits, read_option, around_equals};
+ghost use Rattle.def_command.specs.Grammar.{read_word, read_words, command_from};
 ghost use Rattle.xg_command.specs.Names.{name_value, option_value};
 ghost use Rattle.xg_command.specs.Values.{taken_value, reading_value, command_value};
 
@@ -21,7 +22,8 @@ pub(crate) struct WordsRead<'a> {
 
 /// Reads the words behind the command's, all of them.
 pub(crate) fn read_words<'a>(name: CommandName, words: &'a [String]) -> Option<WordsRead<'a>>
-    ensures { option_map taken_value result ≡ read_words (name_value name) takes_nothing None (map string_bytes words.now) }
+    ensures { option_map taken_value result ≡ read_words (name_value name) takes_nothing None
+        (map string_bytes words.now) }
 {
     let mut reading = WordsRead::begin();
     for word in words {

@@ -35,10 +35,13 @@ all_leaves x n b leaves known =
     sum_over-ext (λ s. group_part (slice_index x s) (entries_with One s leaves) b)
     (λ s. sum_over (λ z. cond (eqb (leaf_sequence One z) s) (cond (eqb (leaf_sequence Two z) b) (z.weight *ℤ pos (slice_index x s)) (pos 0)) (pos 0)) leaves)
     (range_with_len 0 n) (λ s. by_leaves x s b leaves)
-    ∙ sum_over-exchange (λ s z. cond (eqb (leaf_sequence One z) s) (cond (eqb (leaf_sequence Two z) b) (z.weight *ℤ pos (slice_index x s)) (pos 0)) (pos 0)) (range_with_len 0 n) leaves
-    ∙ sum_over-same (λ z. sum_over (λ s. cond (eqb (leaf_sequence One z) s) (cond (eqb (leaf_sequence Two z) b) (z.weight *ℤ pos (slice_index x s)) (pos 0)) (pos 0)) (range_with_len 0 n))
+    ∙ sum_over-exchange (λ s z. cond (eqb (leaf_sequence One z) s) (cond (eqb (leaf_sequence Two z) b) (z.weight *ℤ pos (slice_index x s)) (pos 0)) (pos 0))
+    (range_with_len 0 n) leaves
+    ∙ sum_over-same (λ z. sum_over (λ s. cond (eqb (leaf_sequence One z) s) (cond (eqb (leaf_sequence Two z) b) (z.weight *ℤ pos (slice_index x s)) (pos 0))
+    (pos 0)) (range_with_len 0 n))
     (λ z. cond (eqb (leaf_sequence Two z) b) (z.weight *ℤ pos (slice_index x (leaf_sequence One z))) (pos 0)) leaves
-    (λ k d low. pick_in (λ s. cond (eqb (leaf_sequence Two (get_or leaves k d)) b) ((get_or leaves k d).weight *ℤ pos (slice_index x s)) (pos 0)) (leaf_sequence One (get_or leaves k d)) 0 n (omega arith) (omega (arith, known k d low)))
+    (λ k d low. pick_in (λ s. cond (eqb (leaf_sequence Two (get_or leaves k d)) b) ((get_or leaves k d).weight *ℤ pos (slice_index x s)) (pos 0))
+    (leaf_sequence One (get_or leaves k d)) 0 n (omega arith) (omega (arith, known k d low)))
     ∙ leaf_sums_add_amounts Two leaves x b
 
 -- where each group has the weights of its sequence's leaves, the groups add to each row its leaf sum
@@ -47,7 +50,8 @@ pub parts_are_leaf_sum : (starts : List ℕ) (entries : List GroupLeaf) (x : Lis
     → All (λ z. leaf_sequence One z < n) leaves → b < others
     → parts_sum starts entries x n b ≡ leaf_sum Two leaves x b
 parts_are_leaf_sum starts entries x n others b leaves same known low =
-    sum_over-same (λ s. group_part (slice_index x s) (group_at starts entries s) b) (λ s. group_part (slice_index x s) (entries_with One s leaves) b) (range_with_len 0 n)
+    sum_over-same (λ s. group_part (slice_index x s) (group_at starts entries s) b) (λ s. group_part (slice_index x s) (entries_with One s leaves) b)
+    (range_with_len 0 n)
     (All-range (λ s. group_part (slice_index x s) (group_at starts entries s) b ≡ group_part (slice_index x s) (entries_with One s leaves) b) 0 n
     (λ s from to. same_part (slice_index x s) others b (group_at starts entries s) (entries_with One s leaves) low (same s (omega arith))))
     ∙ all_leaves x n b leaves known

@@ -1,5 +1,6 @@
 -- The sums over the groups, and what they add to the rows of player two, are the rows of the form.
-use Rattle.std.proofs.Common.{◌≡◌, ℕ, ◌+◌, ◌-◌, ◌*◌, ◌^◌, ◌<◌, ◌≤◌, max, List, [], length, get_or, ℤ, pos, unsigned_abs, ◌+ℤ◌, ◌*ℤ◌, All, sym, ap, subst, ◌∙◌, arith}
+use Rattle.std.proofs.Common.{◌≡◌, ℕ, ◌+◌, ◌-◌, ◌*◌, ◌^◌, ◌<◌, ◌≤◌, max, List, [], length, get_or, ℤ, pos, unsigned_abs, ◌+ℤ◌, ◌*ℤ◌, All, sym, ap, subst, ◌∙◌}
+use Rattle.std.proofs.Common.{arith}
 use Rattle.std.proofs.lemmas.List.{ext_get_or}
 use Rattle.std.proofs.lemmas.List.FromFn.{get_or-map-range_with_len, length-map-range_with_len}
 use Rattle.std.proofs.Math.Nat.{mul-le-mul, mul-le-mul_right}
@@ -37,7 +38,8 @@ group_weights form starts entries others s is low =
     let count = group_count form starts entries others is in
     sym (get_or-map-range_with_len (λ t. weights_of others (group_at starts entries t)) 0 (length starts - 1) s s [] (omega arith) (omega arith))
     ∙ ap (λ xs. get_or xs s []) is
-    ∙ get_or-map-range_with_len (λ t. weights_of (sequence_count form.sets_two) (entries_with One t form.leaves)) 0 (sequence_count form.sets_one) s s [] low (omega arith)
+    ∙ get_or-map-range_with_len (λ t. weights_of (sequence_count form.sets_two) (entries_with One t form.leaves)) 0 (sequence_count form.sets_one) s s [] low
+    (omega arith)
 
 -- groups that a table keeps can be written, where there is room
 pub can_write : (bound : ℕ) (starts there : List ℕ) (entries leaves : List GroupLeaf) (form : SequenceForm)

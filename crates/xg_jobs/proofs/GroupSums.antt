@@ -1,5 +1,6 @@
 -- Sums over the entries of a group, one entry after the other, and how large they are.
-use Rattle.std.proofs.Common.{subst, map, ◌≡◌, ℕ, zero, suc, ◌+◌, ◌-◌, ◌*◌, ◌<◌, ◌≤◌, List, [], ◌∷◌, length, get_or, slice_index, take, drop, ℤ, ◌+ℤ◌, ◌*ℤ◌, pos, unsigned_abs, sym, ap, ◌∙◌, arith}
+use Rattle.std.proofs.Common.{subst, map, ◌≡◌, ℕ, zero, suc, ◌+◌, ◌-◌, ◌*◌, ◌<◌, ◌≤◌, List, [], ◌∷◌, length, get_or, slice_index, take, drop, ℤ, ◌+ℤ◌, ◌*ℤ◌}
+use Rattle.std.proofs.Common.{pos, unsigned_abs, sym, ap, ◌∙◌, arith}
 use Rattle.std.proofs.lemmas.List.{take_more, get_or-map, take-map, drop-map}
 use Rattle.std.proofs.lemmas.Int.{unsigned_abs-mul}
 use Rattle.std.proofs.Math.Nat.{mul-le-mul, mul-le-mul_left, mul-le-mul_right}
@@ -59,7 +60,12 @@ pub sum_size : (y : List ℕ) (most : ℕ) (group : List GroupLeaf) (i : ℕ) �
     → unsigned_abs (group_sum y (take i group)) ≤ group_mass group * most
 sum_size y most group i small =
     let front : group_mass (take i group) ≤ group_mass group = mass_front group i in
-    omega (arith, sized (λ e. e.weight *ℤ pos (slice_index y e.other)) most (take i group) (λ e. omega (arith, unsigned_abs-mul e.weight (pos (slice_index y e.other)), mul-le-mul_left (unsigned_abs e.weight) (small e.other))), mul-le-mul_right most front)
+    omega (
+      arith,
+      sized (λ e. e.weight *ℤ pos (slice_index y e.other)) most (take i group)
+          (λ e. omega (arith, unsigned_abs-mul e.weight (pos (slice_index y e.other)), mul-le-mul_left (unsigned_abs e.weight) (small e.other))),
+      mul-le-mul_right most front,
+    )
 
 -- the product of one entry
 pub product_within : (w : ℤ) (n most mass bound : ℕ) → n ≤ most → unsigned_abs w ≤ mass → mass * most < bound

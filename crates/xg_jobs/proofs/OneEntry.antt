@@ -1,7 +1,10 @@
 -- One entry for the leaves of a group that have the same sequence of the other player.
-use Rattle.std.proofs.Common.{◌≡◌, ℕ, zero, suc, ◌+◌, ◌-◌, ◌^◌, ◌<◌, ◌≤◌, Bool, true, false, Some, cond, eqb, List, [], ◌∷◌, ◌++◌, length, get_or, slice_index, set, take, drop, map, All, ℤ, pos, ◌+ℤ◌, unsigned_abs, FitsSigned, to_z, of_z, refl, sym, ap, subst, ◌∙◌, arith, ⊎_elim}
+use Rattle.std.proofs.Common.{◌≡◌, ℕ, zero, suc, ◌+◌, ◌-◌, ◌^◌, ◌<◌, ◌≤◌, Bool, true, false, Some, cond, eqb, List, [], ◌∷◌, ◌++◌, length, get_or, slice_index}
+use Rattle.std.proofs.Common.{set, take, drop, map, All, ℤ, pos, ◌+ℤ◌, unsigned_abs, FitsSigned, to_z, of_z, refl, sym, ap, subst, ◌∙◌, arith, ⊎_elim}
 use Rattle.std.specs.Int.{w64}
-use Rattle.std.proofs.lemmas.List.{drop_all, take_all, take_more, take-take, take-set-le, drop-set-add, drop-take, take-append-le, drop-append-le, drop-map, map-append, length-set, length-map, length-append, length-drop, length-take-le, get_or-drop, get_or-set_same, get_or-set_other}
+use Rattle.std.proofs.lemmas.List.{drop_all, take_all, take_more, take-take, take-set-le, drop-set-add, drop-take, take-append-le, drop-append-le, drop-map}
+use Rattle.std.proofs.lemmas.List.{map-append, length-set, length-map, length-append, length-drop, length-take-le, get_or-drop, get_or-set_same}
+use Rattle.std.proofs.lemmas.List.{get_or-set_other}
 use Rattle.std.proofs.lemmas.List.Elements.{All-pop, All-push, All-set}
 use Rattle.std.proofs.lemmas.Bool.{cases_lt}
 use Rattle.std.proofs.lemmas.Int.{fits_signed_from_abs, ints, to_z-of_z}
@@ -81,7 +84,8 @@ weights_add_up leaf items begin place x one other w from low is fits_one one_is 
     let j : ℕ = place - begin in
     let at : begin + j ≡ place = omega arith in
     let inside : j < length (drop begin gs) = omega (arith, length-drop begin gs, length-map items leaf) in
-    let read : get_or (drop begin gs) j (leaf x) ≡ leaf x = get_or-drop begin gs j (leaf x) ∙ ap (λ k. get_or gs k (leaf x)) at ∙ leaf_at leaf items place x low is in
+    let read : get_or (drop begin gs) j (leaf x) ≡ leaf x = get_or-drop begin gs j (leaf x) ∙ ap (λ k. get_or gs k (leaf x)) at
+    ∙ leaf_at leaf items place x low is in
     let within : unsigned_abs ((leaf x).weight +ℤ w) ≤ group_mass (drop begin gs) + unsigned_abs w =
     omega (arith, unsigned_abs-+ℤ (leaf x).weight w, weight_within (drop begin gs) j (leaf x) inside read) in
     let sum : ℤ = to_z w64 (of_z w64 one) +ℤ to_z w64 (of_z w64 other) in
@@ -161,7 +165,12 @@ takes_none old =
       front = take_all (length old) old (omega arith);
       longer = omega arith;
       shorter = omega arith;
-      stands = subst (λ xs. MayReplace xs []) (sym none) (record { weights = λ b. refl; mass = omega arith; within = λ others all. all; once = λ i j low. absurd (omega arith) });
+      stands = subst (λ xs. MayReplace xs []) (sym none) (record {
+        weights = λ b. refl;
+        mass = omega arith;
+        within = λ others all. all;
+        once = λ i j low. absurd (omega arith);
+      });
     }
 
 -- and one leaf more
@@ -313,7 +322,8 @@ pub merged_weights : (starts : List ℕ) (entries : List GroupLeaf) (old_starts 
 merged_weights starts entries old_starts old_entries others are =
     let n : ℕ = length starts - 1 in
     map-range_same (λ s. weights_of others (group_at starts entries s)) (λ s. weights_of others (group_at old_starts old_entries s)) 0 n
-    (λ s from low. map-range_same (λ b. weight_with b (group_at starts entries s)) (λ b. weight_with b (group_at old_starts old_entries s)) 0 others (λ b _ _. (are.each s (omega (arith, are.count))).weights b))
+    (λ s from low. map-range_same (λ b. weight_with b (group_at starts entries s)) (λ b. weight_with b (group_at old_starts old_entries s)) 0 others
+    (λ b _ _. (are.each s (omega (arith, are.count))).weights b))
     ∙ ap (λ k. map (λ s. weights_of others (group_at old_starts old_entries s)) (range_with_len 0 (k - 1))) are.count
 
 -- and its groups have each sequence once

@@ -14,7 +14,8 @@ pub spread : (c : ℤ) (group : List GroupLeaf) (b : ℕ)
 spread c group b =
     *ℤ_comm (weight_with b group) c
     ∙ sym (sum_over-factor c (λ e. cond (eqb e.other b) e.weight (pos 0)) group)
-    ∙ sum_over-ext (λ e. c *ℤ cond (eqb e.other b) e.weight (pos 0)) (λ e. cond (eqb e.other b) (e.weight *ℤ c) (pos 0)) group (λ e. by_test (eqb e.other b) e.weight)
+    ∙ sum_over-ext (λ e. c *ℤ cond (eqb e.other b) e.weight (pos 0)) (λ e. cond (eqb e.other b) (e.weight *ℤ c) (pos 0)) group
+    (λ e. by_test (eqb e.other b) e.weight)
   where
     by_test : (t : Bool) (w : ℤ) → c *ℤ cond t w (pos 0) ≡ cond t (w *ℤ c) (pos 0)
     by_test true w = *ℤ_comm c w
@@ -24,9 +25,11 @@ spread c group b =
 by_pairs : (y : List ℕ) (n : ℕ) (group : List GroupLeaf) → All (λ e. e.other < n) group
     → sum_over (λ b. weight_with b group *ℤ pos (slice_index y b)) (range_with_len 0 n) ≡ group_sum y group
 by_pairs y n group within =
-    sum_over-ext (λ b. weight_with b group *ℤ pos (slice_index y b)) (λ b. sum_over (λ e. cond (eqb e.other b) (e.weight *ℤ pos (slice_index y b)) (pos 0)) group) (range_with_len 0 n) (λ b. spread (pos (slice_index y b)) group b)
+    sum_over-ext (λ b. weight_with b group *ℤ pos (slice_index y b)) (λ b. sum_over (λ e. cond (eqb e.other b) (e.weight *ℤ pos (slice_index y b)) (pos 0))
+    group) (range_with_len 0 n) (λ b. spread (pos (slice_index y b)) group b)
     ∙ sum_over-exchange (λ b e. cond (eqb e.other b) (e.weight *ℤ pos (slice_index y b)) (pos 0)) (range_with_len 0 n) group
-    ∙ sum_over-same (λ e. sum_over (λ b. cond (eqb e.other b) (e.weight *ℤ pos (slice_index y b)) (pos 0)) (range_with_len 0 n)) (λ e. e.weight *ℤ pos (slice_index y e.other)) group
+    ∙ sum_over-same (λ e. sum_over (λ b. cond (eqb e.other b) (e.weight *ℤ pos (slice_index y b)) (pos 0)) (range_with_len 0 n))
+    (λ e. e.weight *ℤ pos (slice_index y e.other)) group
     (λ k d low. pick_in (λ b. (get_or group k d).weight *ℤ pos (slice_index y b)) (get_or group k d).other 0 n (omega arith) (omega (arith, within k d low)))
 
 -- one of the weights
@@ -44,7 +47,8 @@ pub same_sum : (y : List ℕ) (n : ℕ) (group other : List GroupLeaf) → All (
 same_sum y n group other within other_within same =
     sym (by_pairs y n group within)
     ∙ sum_over-same (λ b. weight_with b group *ℤ pos (slice_index y b)) (λ b. weight_with b other *ℤ pos (slice_index y b)) (range_with_len 0 n)
-    (All-range (λ b. weight_with b group *ℤ pos (slice_index y b) ≡ weight_with b other *ℤ pos (slice_index y b)) 0 n (λ b from low. ap (λ w. w *ℤ pos (slice_index y b)) (each b (omega arith))))
+    (All-range (λ b. weight_with b group *ℤ pos (slice_index y b) ≡ weight_with b other *ℤ pos (slice_index y b)) 0 n
+    (λ b from low. ap (λ w. w *ℤ pos (slice_index y b)) (each b (omega arith))))
     ∙ by_pairs y n other other_within
   where
     each : (b : ℕ) → b < n → weight_with b group ≡ weight_with b other

@@ -1,5 +1,6 @@
 -- What the entries of a group, and the groups one after the other, add to a row of the other player.
-use Rattle.std.proofs.Common.{◌≡◌, ℕ, zero, suc, ◌+◌, ◌-◌, ◌*◌, ◌<◌, ◌≤◌, Bool, true, false, cond, eqb, List, length, get_or, slice_index, take, ℤ, pos, ◌+ℤ◌, ◌*ℤ◌, unsigned_abs, refl, sym, ap, ◌∙◌, arith}
+use Rattle.std.proofs.Common.{◌≡◌, ℕ, zero, suc, ◌+◌, ◌-◌, ◌*◌, ◌<◌, ◌≤◌, Bool, true, false, cond, eqb, List, length, get_or, slice_index, take, ℤ, pos, ◌+ℤ◌}
+use Rattle.std.proofs.Common.{◌*ℤ◌, unsigned_abs, refl, sym, ap, ◌∙◌, arith}
 use Rattle.std.specs.List.{range_with_len}
 use Rattle.std.proofs.lemmas.Bool.Decides.{nat_tests}
 use Rattle.std.proofs.lemmas.Int.{unsigned_abs-mul}
@@ -7,7 +8,8 @@ use Rattle.std.proofs.Math.Nat.{add-mul, mul-le-mul_left, mul-le-mul_right}
 use Rattle.def_sums.specs.Sum.{sum_over, nat_sum_over}
 use Rattle.def_sums.proofs.Ranges.{range-append}
 use Rattle.def_sums.proofs.RingLaws.{+ℤ-zero, +ℤ_assoc, *ℤ-zero, unsigned_abs-+ℤ}
-use Rattle.def_sums.proofs.SumLaws.{sum_over-append, sum_over-ext, sum_over-zero, unsigned_abs-sum_over, nat_sum_over-append, nat_sum_over-mono, nat_sum_over-factor}
+use Rattle.def_sums.proofs.SumLaws.{sum_over-append, sum_over-ext, sum_over-zero, unsigned_abs-sum_over, nat_sum_over-append, nat_sum_over-mono}
+use Rattle.def_sums.proofs.SumLaws.{nat_sum_over-factor}
 use Rattle.xg_jobs.specs.Groups.{GroupLeaf, group_at, group_mass, group_part, groups_mass, parts_sum}
 use Rattle.xg_jobs.proofs.GroupSums.{mass_front, one_more, sized}
 
@@ -101,8 +103,10 @@ parts_size starts entries x most n b small =
     omega (
       arith,
       unsigned_abs-sum_over (λ s. group_part (slice_index x s) (group_at starts entries s) b) (range_with_len 0 n),
-      nat_sum_over-mono (λ s. unsigned_abs (group_part (slice_index x s) (group_at starts entries s) b)) (λ s. group_mass (group_at starts entries s) * most) (range_with_len 0 n)
-          (λ k d low. part_size (slice_index x (get_or (range_with_len 0 n) k d)) most (group_at starts entries (get_or (range_with_len 0 n) k d)) b (small (get_or (range_with_len 0 n) k d))),
+      nat_sum_over-mono (λ s. unsigned_abs (group_part (slice_index x s) (group_at starts entries s) b)) (λ s. group_mass (group_at starts entries s) * most)
+          (range_with_len 0 n)
+          (λ k d low. part_size (slice_index x (get_or (range_with_len 0 n) k d)) most (group_at starts entries (get_or (range_with_len 0 n) k d)) b
+          (small (get_or (range_with_len 0 n) k d))),
       nat_sum_over-factor most (λ s. group_mass (group_at starts entries s)) (range_with_len 0 n),
     )
 
@@ -114,7 +118,14 @@ pub room_left : (bound : ℕ) (starts : List ℕ) (entries : List GroupLeaf) (x 
     → unsigned_abs now + group_mass (group_at starts entries n) * most < bound
 room_left bound starts entries x n all most b now old less is small room =
     let scaled = mul-le-mul_right most (mass_upto starts entries n all less) in
-    omega (arith, scaled, ap unsigned_abs is, unsigned_abs-+ℤ old (parts_sum starts entries x n b), parts_size starts entries x most n b small, add-mul (groups_mass starts entries n) (group_mass (group_at starts entries n)) most)
+    omega (
+      arith,
+      scaled,
+      ap unsigned_abs is,
+      unsigned_abs-+ℤ old (parts_sum starts entries x n b),
+      parts_size starts entries x most n b small,
+      add-mul (groups_mass starts entries n) (group_mass (group_at starts entries n)) most,
+    )
 
 -- what a row has once a group more was added to it
 pub row_after : (starts : List ℕ) (entries : List GroupLeaf) (x : List ℕ) (n b : ℕ) (group : List GroupLeaf) (after before old : ℤ)

@@ -28,4 +28,5 @@ pub first_in_limit : (ranges : List LeafRange) (job : ℕ) (r : LeafRange) → j
     → r ≡ get_or ranges job r
     → All (λ range. range.first ≤ most_nodes) ranges → r.first ≤ most_nodes
 first_in_limit ranges job r low read all =
-    subst (λ (x : LeafRange). x.first ≤ most_nodes) (sym read) (All-get_or (λ range. range.first ≤ most_nodes) ranges job r (subst (λ n. job < n) (length-map ranges range_of) low) all)
+    subst (λ (x : LeafRange). x.first ≤ most_nodes) (sym read) (All-get_or (λ range. range.first ≤ most_nodes) ranges job r
+    (subst (λ n. job < n) (length-map ranges range_of) low) all)

@@ -1,5 +1,6 @@
 -- The rows of each job.
-use Rattle.std.proofs.Common.{◌≡◌, ℕ, zero, suc, ◌+◌, ◌<◌, ◌≤◌, max, List, [], ◌∷◌, ◌++◌, length, get_or, take, map, All, sym, ap, subst, ◌∙◌, arith, length-append}
+use Rattle.std.proofs.Common.{◌≡◌, ℕ, zero, suc, ◌+◌, ◌<◌, ◌≤◌, max, List, [], ◌∷◌, ◌++◌, length, get_or, take, map, All, sym, ap, subst, ◌∙◌, arith}
+use Rattle.std.proofs.Common.{length-append}
 use Rattle.std.specs.Prelude.{flat_map}
 use Rattle.std.proofs.lemmas.List.{take_more, map_push, get_or-map, length-map}
 use Rattle.std.proofs.lemmas.List.FromFn.{length-range_with_len}
@@ -23,9 +24,19 @@ ranges_end : (first : ℕ) (counts : List ℕ) (k : ℕ) (d : RangeOfLeaves) →
     ≤ first + length (flat_map leaves_of (ranges_from first counts))
 ranges_end first [] k d low = absurd (omega arith)
 ranges_end first (count ∷ rest) zero d low =
-    omega (arith, length-append (leaves_of (record { first = first; count = count })) (flat_map leaves_of (ranges_from (first + count) rest)), length-range_with_len first count)
+    omega (
+      arith,
+      length-append (leaves_of (record { first = first; count = count })) (flat_map leaves_of (ranges_from (first + count) rest)),
+      length-range_with_len first count,
+    )
 ranges_end first (count ∷ rest) (suc k) d low =
-    omega (arith, ranges_end (first + count) rest k d (omega arith), length-append (leaves_of (record { first = first; count = count })) (flat_map leaves_of (ranges_from (first + count) rest)), length-range_with_len first count)
+    omega (
+      arith,
+      ranges_end (first + count) rest k d (omega arith),
+      length-append (leaves_of (record { first = first; count = count }))
+          (flat_map leaves_of (ranges_from (first + count) rest)),
+      length-range_with_len first count,
+    )
 
 -- a form has a leaf for each of its tree's
 pub form_leaves : (form : SequenceForm) (tree : Forest) → IsFormOf form tree
@@ -39,7 +50,13 @@ form_leaves form tree is =
 pub ranges_inside : (form : SequenceForm) (tree : Forest) → IsFormOf form tree → tree_count tree ≡ 1
     → All (λ (r : RangeOfLeaves). r.first + r.count ≤ length form.leaves) (job_ranges tree)
 ranges_inside form tree is one k d low =
-    omega (arith, ranges_end 0 (leaf_counts tree) k d low, ap length (partition tree one), length-range_with_len 0 (leaf_count (prefix tree)), form_leaves form tree is)
+    omega (
+      arith,
+      ranges_end 0 (leaf_counts tree) k d low,
+      ap length (partition tree one),
+      length-range_with_len 0 (leaf_count (prefix tree)),
+      form_leaves form tree is,
+    )
 
 -- the same of the ranges as a table has them
 pub table_inside : (form : SequenceForm) (tree : Forest) (ranges : List LeafRange) → IsFormOf form tree
@@ -103,7 +120,13 @@ job_is_touched form table job touched is low found =
     let same : range ≡ touched.range = sym (ap (λ (t : JobRows). t.range) whole) in
     record {
       range_is = ap (λ rs. get_or rs job none) ranges_are ∙ same;
-      inside = subst (λ (r : RangeOfLeaves). r.first + r.count ≤ length form.leaves) same (ranges_inside form tree is.leaves.form_is is.leaves.rules.tree.one job none there);
+      inside = subst (λ (r : RangeOfLeaves). r.first + r.count ≤ length form.leaves) same
+          (ranges_inside form tree is.leaves.form_is is.leaves.rules.tree.one job none there);
       rows = whole ∙ ap (job_rows form) same;
-      few = omega (arith, ap (λ (t : JobRows). length t.rows) found, at_most_touched table.touched job touched (omega (arith, ap (length {A = JobRows}) touched_are, length-map (job_ranges tree) (job_rows form), there)));
+      few = omega (
+        arith,
+        ap (λ (t : JobRows). length t.rows) found,
+        at_most_touched table.touched job touched
+            (omega (arith, ap (length {A = JobRows}) touched_are, length-map (job_ranges tree) (job_rows form), there)),
+      );
     }

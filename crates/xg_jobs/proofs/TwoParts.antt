@@ -1,6 +1,8 @@
 -- Groups in two parts: the first ones, and those behind them.
-use Rattle.std.proofs.Common.{◌≡◌, ℕ, zero, suc, ◌+◌, ◌-◌, ◌<◌, ◌≤◌, max, List, [], ◌∷◌, ◌++◌, length, slice_index, replicate, take, drop, All, ℤ, pos, ◌+ℤ◌, unsigned_abs, sym, ap, subst, ◌∙◌, arith, refl, ⊎_elim}
-use Rattle.std.proofs.lemmas.List.{get_or-take, get_or-drop, get_or_append_left, get_or-append-add, length-take-le, length-drop, length-append, length-replicate, get_or-replicate, get_or_past}
+use Rattle.std.proofs.Common.{◌≡◌, ℕ, zero, suc, ◌+◌, ◌-◌, ◌<◌, ◌≤◌, max, List, [], ◌∷◌, ◌++◌, length, slice_index, replicate, take, drop, All, ℤ, pos, ◌+ℤ◌}
+use Rattle.std.proofs.Common.{unsigned_abs, sym, ap, subst, ◌∙◌, arith, refl, ⊎_elim}
+use Rattle.std.proofs.lemmas.List.{get_or-take, get_or-drop, get_or_append_left, get_or-append-add, length-take-le, length-drop, length-append}
+use Rattle.std.proofs.lemmas.List.{length-replicate, get_or-replicate, get_or_past}
 use Rattle.std.proofs.lemmas.Bool.{cases_lt}  -- `cases_lt` is `lt_or_ge` in other libraries, and gives their `le_total`
 use Rattle.std.proofs.Math.Nat.{mul-le-mul}
 use Rattle.def_plan.specs.FormRows.{amount_of}
@@ -50,10 +52,12 @@ all_parts starts entries x cut (suc n) b =
     ap (λ k. parts_sum starts entries x k b) e
     ∙ parts_more starts entries x (cut + n) b
     ∙ ap (λ v. v +ℤ group_part (slice_index x (cut + n)) (group_at starts entries (cut + n)) b) (all_parts starts entries x cut n b)
-    ∙ +ℤ_assoc (parts_sum starts entries x cut b) (parts_sum (drop cut starts) entries (drop cut x) n b) (group_part (slice_index x (cut + n)) (group_at starts entries (cut + n)) b)
+    ∙ +ℤ_assoc (parts_sum starts entries x cut b) (parts_sum (drop cut starts) entries (drop cut x) n b)
+    (group_part (slice_index x (cut + n)) (group_at starts entries (cut + n)) b)
     ∙ ap (λ v. parts_sum starts entries x cut b +ℤ v) (
     ap (λ k. parts_sum (drop cut starts) entries (drop cut x) n b +ℤ group_part k (group_at starts entries (cut + n)) b) (sym (get_or-drop cut x n 0))
-    ∙ ap (λ group. parts_sum (drop cut starts) entries (drop cut x) n b +ℤ group_part (slice_index (drop cut x) n) group b) (sym (later_group starts entries cut n))
+    ∙ ap (λ group. parts_sum (drop cut starts) entries (drop cut x) n b +ℤ group_part (slice_index (drop cut x) n) group b)
+    (sym (later_group starts entries cut n))
     ∙ sym (parts_more (drop cut starts) entries (drop cut x) n b)
     ∙ ap (λ k. parts_sum (drop cut starts) entries (drop cut x) k b) (sym f)
     )
@@ -110,11 +114,17 @@ can_front : (limit : ℕ) (starts : List ℕ) (entries : List GroupLeaf) (one tw
     → CanAddGroups limit (take (cut + 1) starts) entries (take cut one) two cut rows
 can_front limit starts entries one two n rows cut can low =
     let e : cut + (n - cut) ≡ n = omega arith in
-    let most : max (greatest_of (take cut one)) (greatest_of two) ≤ max (greatest_of one) (greatest_of two) = lower (greatest_of (take cut one)) (greatest_of one) (greatest_of two) (greatest_front cut one) in
+    let most : max (greatest_of (take cut one)) (greatest_of two) ≤ max (greatest_of one) (greatest_of two) = lower (greatest_of (take cut one))
+    (greatest_of one) (greatest_of two) (greatest_front cut one) in
     let mass : groups_mass (take (cut + 1) starts) entries cut ≤ groups_mass starts entries n =
     omega (arith, first_mass starts entries cut cut (omega arith), all_mass starts entries cut (n - cut), ap (groups_mass starts entries) e) in
     record {
-      ordered = λ s below. omega (arith, can.ordered s (omega arith), get_or-take (cut + 1) starts s 0 (omega arith), get_or-take (cut + 1) starts (s + 1) 0 (omega arith));
+      ordered = λ s below. omega (
+        arith,
+        can.ordered s (omega arith),
+        get_or-take (cut + 1) starts s 0 (omega arith),
+        get_or-take (cut + 1) starts (s + 1) 0 (omega arith),
+      );
       inside = λ s below. omega (arith, can.inside s (omega arith), get_or-take (cut + 1) starts (s + 1) 0 (omega arith));
       all_starts = sym (length-take-le (cut + 1) starts (omega (arith, can.all_starts)));
       ones = sym (length-take-le cut one (omega (arith, can.ones)));
@@ -132,7 +142,8 @@ pub can_first : (limit : ℕ) (starts : List ℕ) (entries : List GroupLeaf) (on
 can_first limit starts entries one two n rows cut front_starts front_one k can low a b c =
     subst (λ xs. CanAddGroups limit xs entries front_one two k rows) (sym a)
     (subst (λ xs. CanAddGroups limit (take (cut + 1) starts) entries xs two k rows) (sym b)
-    (subst (λ m. CanAddGroups limit (take (cut + 1) starts) entries (take cut one) two m rows) (sym c) (can_front limit starts entries one two n rows cut can low)))
+    (subst (λ m. CanAddGroups limit (take (cut + 1) starts) entries (take cut one) two m rows) (sym c)
+    (can_front limit starts entries one two n rows cut can low)))
 
 -- what those behind them need, with rows that begin with 0
 can_back : (limit : ℕ) (starts : List ℕ) (entries : List GroupLeaf) (one two : List ℕ) (n : ℕ) (rows spare : List ℤ) (cut : ℕ)
@@ -140,11 +151,18 @@ can_back : (limit : ℕ) (starts : List ℕ) (entries : List GroupLeaf) (one two
     → CanAddGroups limit (drop cut starts) entries (drop cut one) two (n - cut) spare
 can_back limit starts entries one two n rows spare cut can low count zeros =
     let e : cut + (n - cut) ≡ n = omega arith in
-    let most : max (greatest_of (drop cut one)) (greatest_of two) ≤ max (greatest_of one) (greatest_of two) = lower (greatest_of (drop cut one)) (greatest_of one) (greatest_of two) (greatest_back cut one) in
+    let most : max (greatest_of (drop cut one)) (greatest_of two) ≤ max (greatest_of one) (greatest_of two) = lower (greatest_of (drop cut one))
+    (greatest_of one) (greatest_of two) (greatest_back cut one) in
     let mass : groups_mass (drop cut starts) entries (n - cut) ≤ groups_mass starts entries n =
     omega (arith, all_mass starts entries cut (n - cut), ap (groups_mass starts entries) e) in
     record {
-      ordered = λ s below. omega (arith, can.ordered (cut + s) (omega arith), get_or-drop cut starts s 0, get_or-drop cut starts (s + 1) 0, ap (slice_index starts) (next s));
+      ordered = λ s below. omega (
+        arith,
+        can.ordered (cut + s) (omega arith),
+        get_or-drop cut starts s 0,
+        get_or-drop cut starts (s + 1) 0,
+        ap (slice_index starts) (next s),
+      );
       inside = λ s below. omega (arith, can.inside (cut + s) (omega arith), get_or-drop cut starts (s + 1) 0, ap (slice_index starts) (next s));
       all_starts = omega (arith, can.all_starts, length-drop cut starts);
       ones = omega (arith, can.ones, length-drop cut one);
@@ -165,7 +183,8 @@ pub can_later : (limit : ℕ) (starts : List ℕ) (entries : List GroupLeaf) (on
 can_later limit starts entries one two n rows spare cut back_starts back_one k can low count zeros a b c =
     subst (λ xs. CanAddGroups limit xs entries back_one two k spare) (sym a)
     (subst (λ xs. CanAddGroups limit (drop cut starts) entries xs two k spare) (sym b)
-    (subst (λ m. CanAddGroups limit (drop cut starts) entries (drop cut one) two m spare) (sym c) (can_back limit starts entries one two n rows spare cut can low count zeros)))
+    (subst (λ m. CanAddGroups limit (drop cut starts) entries (drop cut one) two m spare) (sym c)
+    (can_back limit starts entries one two n rows spare cut can low count zeros)))
 
 -- what both parts bring to a row is what all groups bring to it
 pub both_bring : (starts : List ℕ) (entries : List GroupLeaf) (x : List ℕ) (cut n b : ℕ) (before first spare later : ℤ)
@@ -200,7 +219,8 @@ pub both_sums : (starts : List ℕ) (entries : List GroupLeaf) (two : List ℕ) 
     → (s : ℕ) → s < length (own ++ later) → amount_of (own ++ later) s ≡ group_sum two (group_at starts entries s)
 both_sums starts entries two cut own later count first back s low =
     ⊎_elim
-    (λ below. get_or_append_left own later (pos 0) s below ∙ first s below ∙ ap (group_sum two) (first_group starts entries cut s (omega (arith, below, count))))
+    (λ below. get_or_append_left own later (pos 0) s below ∙ first s below
+    ∙ ap (group_sum two) (first_group starts entries cut s (omega (arith, below, count))))
     (λ above.
     let k : ℕ = s - length own in
     let e : s ≡ length own + k = omega (arith, above) in

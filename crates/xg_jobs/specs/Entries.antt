@@ -30,7 +30,8 @@ leaves_of_group (Wide entries) = map wide_leaf entries.items
 abbrev pub AreSmallest : GroupEntries → Type 0
 AreSmallest (Tiny _) = Unit {0}
 AreSmallest (Small entries) = All (λ e. IsTiny (small_leaf e)) entries.items → ⊥
-AreSmallest (Wide entries) = (All (λ e. IsSmall (wide_leaf e)) entries.items → ⊥) × (All (λ e. IsTiny (wide_leaf e)) entries.items → ⊥)
+AreSmallest (Wide entries) = (All (λ e. IsSmall (wide_leaf e)) entries.items → ⊥)
+    × (All (λ e. IsTiny (wide_leaf e)) entries.items → ⊥)
 
 -- each group begins where the one before it ends, none goes on behind the last entry; its leaves have sequences of the
 -- other player, who has so many, and the sizes of all weights together are no more than the mass

@@ -1,5 +1,6 @@
 -- Groups in which all leaves with the same pair of sequences are one entry.
-use Rattle.std.specs.Prelude.{◌≡◌, ℕ, ◌+◌, ◌-◌, ◌^◌, ◌<◌, ◌≤◌, ◌==◌, if◌then◌else◌, List, length, All, slice_index, map, take, drop, pos, ◌+ℤ◌, unsigned_abs}
+use Rattle.std.specs.Prelude.{◌≡◌, ℕ, ◌+◌, ◌-◌, ◌^◌, ◌<◌, ◌≤◌, ◌==◌, if◌then◌else◌, List, length, All, slice_index, map}
+use Rattle.std.specs.Prelude.{take, drop, pos, ◌+ℤ◌, unsigned_abs}
 use Rattle.def_tree.specs.Rules.{most_nodes}
 use Rattle.xg_jobs.specs.Groups.{GroupLeaf, HaveOwnSequences, group_at, group_mass, weight_with}
 
@@ -59,4 +60,5 @@ pub record MergedUpto (n : ℕ) (starts : List ℕ) (entries : List GroupLeaf) (
   pub few : length entries ≤ slice_index old_starts n
 
 abbrev pub AreMerged : List ℕ → List GroupLeaf → List ℕ → List GroupLeaf → Type 0
-AreMerged starts entries old_starts old_entries = MergedUpto (length old_starts - 1) starts entries old_starts old_entries
+AreMerged starts entries old_starts old_entries = MergedUpto (length old_starts - 1) starts entries old_starts
+    old_entries

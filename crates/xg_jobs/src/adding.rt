@@ -16,7 +16,8 @@ pub(crate) fn add_groups<E: GroupEntry, R: Row>(
     own: &mut [R],
     other: &mut [R],
 )
-    requires { CanAddGroups R.limit starts.now (map E.leaf entries.now) one.now two.now (length own.old) (map R.amount other.old) }
+    requires { CanAddGroups R.limit starts.now (map E.leaf entries.now) one.now two.now (length own.old)
+        (map R.amount other.old) }
     ensures { AddsGroups starts.now (map E.leaf entries.now) one.now two.now
         (map R.amount own.new) (map R.amount other.old) (map R.amount other.new) }
 {
@@ -32,7 +33,8 @@ pub(crate) fn add_groups_afresh<E: GroupEntry, R: Row>(
     own: &mut [R],
     fresh: &mut [R],
 )
-    requires { CanAddGroups R.limit starts.now (map E.leaf entries.now) one.now two.now (length own.old) (replicate (length fresh.old) (pos 0)) }
+    requires { CanAddGroups R.limit starts.now (map E.leaf entries.now) one.now two.now (length own.old)
+        (replicate (length fresh.old) (pos 0)) }
     ensures { AddsGroups starts.now (map E.leaf entries.now) one.now two.now
         (map R.amount own.new) (replicate (length fresh.old) (pos 0)) (map R.amount fresh.new) }
 {
@@ -52,7 +54,8 @@ pub(crate) fn clear<R: Row>(rows: &mut [R])
 /// Adds to each row the other one.
 pub(crate) fn add_rows<R: Row>(rows: &mut [R], others: &[R])
     requires count { length rows.old ≡ length others.now }
-    requires room { (b : ℕ) → unsigned_abs (amount_of (map R.amount rows.old) b +ℤ amount_of (map R.amount others.now) b) < R.limit }
+    requires room { (b : ℕ) → unsigned_abs (amount_of (map R.amount rows.old) b
+        +ℤ amount_of (map R.amount others.now) b) < R.limit }
     ensures { (b : ℕ) → amount_of (map R.amount rows.new) b
         ≡ amount_of (map R.amount rows.old) b +ℤ amount_of (map R.amount others.now) b }
 {

@@ -53,7 +53,8 @@ pub(crate) fn spread_groups<E: GroupEntry, R: Row>(
     requires room { (b : ℕ) → unsigned_abs (amount_of (map R.amount other.old) b)
         + groups_mass starts.now (map E.leaf entries.now) (length one.now) * most < R.limit }
     ensures other { (b : ℕ) → amount_of (map R.amount other.new) b
-        ≡ amount_of (map R.amount other.old) b +ℤ parts_sum starts.now (map E.leaf entries.now) one.now (length one.now) b }
+        ≡ amount_of (map R.amount other.old) b +ℤ parts_sum starts.now (map E.leaf entries.now) one.now (length one.now)
+        b }
 {
     for s in 0..one.len() {
         let group = &entries[starts[s] as usize..starts[s + 1] as usize];

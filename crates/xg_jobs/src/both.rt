@@ -34,7 +34,8 @@ pub(crate) fn both_rows<E: GroupEntry, R: Row>(
     ensures own { (s : ℕ) → s < length own.old → amount_of (map R.amount own.new) s
         ≡ group_sum two.now (group_at starts.now (map E.leaf entries.now) s) }
     ensures other { (b : ℕ) → amount_of (map R.amount other.new) b
-        ≡ amount_of (map R.amount other.old) b +ℤ parts_sum starts.now (map E.leaf entries.now) one.now (length own.old) b }
+        ≡ amount_of (map R.amount other.old) b +ℤ parts_sum starts.now (map E.leaf entries.now) one.now (length own.old)
+        b }
 {
     for s in 0..own.len() {
         let group = &entries[starts[s] as usize..starts[s + 1] as usize];
@@ -51,7 +52,8 @@ fn add_group<E: GroupEntry, R: Row>(group: &[E], number: u64, two: &[u64], other
     requires small_number { number ≤ most }
     requires small_two { (b : ℕ) → slice_index two.now b ≤ most }
     requires small { most < past_number }
-    requires room { (b : ℕ) → unsigned_abs (amount_of (map R.amount other.old) b) + group_mass (map E.leaf group.now) * most < R.limit }
+    requires room { (b : ℕ) → unsigned_abs (amount_of (map R.amount other.old) b) + group_mass (map E.leaf group.now)
+        * most < R.limit }
     ensures own { R.amount result ≡ group_sum two.now (map E.leaf group.now) }
     ensures other { (b : ℕ) → amount_of (map R.amount other.new) b
         ≡ amount_of (map R.amount other.old) b +ℤ group_part number (map E.leaf group.now) b }
@@ -89,7 +91,8 @@ fn spread_group<E: GroupEntry, R: Row>(group: &[E], number: u64, two: &[u64], ot
     requires small_number { number ≤ most }
     requires small_two { (b : ℕ) → slice_index two.now b ≤ most }
     requires small { most < past_number }
-    requires room { (b : ℕ) → unsigned_abs (amount_of (map R.amount other.old) b) + group_mass (map E.leaf group.now) * most < R.limit }
+    requires room { (b : ℕ) → unsigned_abs (amount_of (map R.amount other.old) b) + group_mass (map E.leaf group.now)
+        * most < R.limit }
     ensures own { R.amount result ≡ group_sum two.now (map E.leaf group.now) }
     ensures other { (b : ℕ) → amount_of (map R.amount other.new) b
         ≡ amount_of (map R.amount other.old) b +ℤ group_part number (map E.leaf group.now) b }

@@ -10,8 +10,8 @@ use crate::row::Row;
 use std::marker::{Send, Sync};
 use std::thread::{Threads, join_mut};
 
-/// As `add_groups`, in two threads: this one adds up the first `cut` groups, the other those from there on, with rows of
-/// player two in spare room. Both sign the roll. Whether it is full then is looked for as often as is said.
+/// As `add_groups`, in two threads: this one adds up the first `cut` groups, the other those from there on, with rows
+/// of player two in spare room. Both sign the roll. Whether it is full then is looked for as often as is said.
 pub(crate) fn add_groups_in_two<Rt: Threads, E: GroupEntry + Sync, R: Row + Send>(
     rt: &Rt,
     starts: &[u32],
@@ -25,7 +25,8 @@ pub(crate) fn add_groups_in_two<Rt: Threads, E: GroupEntry + Sync, R: Row + Send
     roll: &Roll,
     looks: usize,
 ) -> bool
-    requires can { CanAddGroups R.limit starts.now (map E.leaf entries.now) one.now two.now (length own.old) (map R.amount other.old) }
+    requires can { CanAddGroups R.limit starts.now (map E.leaf entries.now) one.now two.now (length own.old)
+        (map R.amount other.old) }
     requires cut { cut ≤ length own.old }
     requires spare { length spare.old ≡ length other.old }
     ensures { AddsGroups starts.now (map E.leaf entries.now) one.now two.now
@@ -70,7 +71,8 @@ fn add_halves<Rt: Threads, E: GroupEntry + Sync, R: Row + Send>(
     roll: &Roll,
     looks: usize,
 ) -> bool
-    requires first { CanAddGroups R.limit starts.now (map E.leaf entries.now) one.now two.now (length own.old) (map R.amount other.old) }
+    requires first { CanAddGroups R.limit starts.now (map E.leaf entries.now) one.now two.now (length own.old)
+        (map R.amount other.old) }
     requires later { CanAddGroups R.limit later_starts.now (map E.leaf entries.now) later_one.now two.now
         (length later_own.old) (replicate (length spare.old) (pos 0)) }
     ensures first { AddsGroups starts.now (map E.leaf entries.now) one.now two.now
@@ -80,7 +82,8 @@ fn add_halves<Rt: Threads, E: GroupEntry + Sync, R: Row + Send>(
 {
     let mut first = || -> bool
         requires { IsSync E.row × IsSend R.row
-            × CanAddGroups R.limit starts.now (map E.leaf entries.now) one.now two.now (length own.now) (map R.amount other.now) }
+            × CanAddGroups R.limit starts.now (map E.leaf entries.now) one.now two.now (length own.now)
+            (map R.amount other.now) }
         ensures { AddsGroups starts.entry.now (map E.leaf entries.entry.now) one.entry.now two.entry.now
             (map R.amount own.exit.now) (map R.amount other.entry.now) (map R.amount other.exit.now) }
     {
@@ -93,7 +96,8 @@ fn add_halves<Rt: Threads, E: GroupEntry + Sync, R: Row + Send>(
             × CanAddGroups R.limit later_starts.now (map E.leaf entries.now) later_one.now two.now
             (length later_own.now) (replicate (length spare.now) (pos 0)) }
         ensures { AddsGroups later_starts.entry.now (map E.leaf entries.entry.now) later_one.entry.now two.entry.now
-            (map R.amount later_own.exit.now) (replicate (length spare.entry.now) (pos 0)) (map R.amount spare.exit.now) }
+            (map R.amount later_own.exit.now) (replicate (length spare.entry.now) (pos 0))
+            (map R.amount spare.exit.now) }
     {
         add_groups_afresh(later_starts, entries, later_one, two, later_own, spare);
         roll.sign();

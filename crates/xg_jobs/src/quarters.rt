@@ -19,8 +19,8 @@ pub(crate) struct Cuts {
     pub(crate) later: usize,
 }
 
-/// As `add_groups_in_two`, in four threads, which sign a roll of their own. Whether the three others had ended when they
-/// were looked for.
+/// As `add_groups_in_two`, in four threads, which sign a roll of their own. Whether the three others had ended when
+/// they were looked for.
 pub(crate) fn add_groups_in_four<Rt: Threads + Sync, E: GroupEntry + Sync, R: Row + Send>(
     rt: &Rt,
     starts: &[u32],
@@ -34,7 +34,8 @@ pub(crate) fn add_groups_in_four<Rt: Threads + Sync, E: GroupEntry + Sync, R: Ro
     spare: &mut [R],
     later_spare: &mut [R],
 ) -> bool
-    requires can { CanAddGroups R.limit starts.now (map E.leaf entries.now) one.now two.now (length own.old) (map R.amount other.old) }
+    requires can { CanAddGroups R.limit starts.now (map E.leaf entries.now) one.now two.now (length own.old)
+        (map R.amount other.old) }
     requires middle { cuts.middle ≤ length own.old }
     requires first { cuts.first ≤ cuts.middle }
     requires later { cuts.middle + cuts.later ≤ length own.old }
@@ -89,7 +90,8 @@ fn add_quarters<Rt: Threads + Sync, E: GroupEntry + Sync, R: Row + Send>(
     later_other: &mut [R],
     later_spare: &mut [R],
 ) -> bool
-    requires first { CanAddGroups R.limit starts.now (map E.leaf entries.now) one.now two.now (length own.old) (map R.amount other.old) }
+    requires first { CanAddGroups R.limit starts.now (map E.leaf entries.now) one.now two.now (length own.old)
+        (map R.amount other.old) }
     requires cut { cut ≤ length own.old }
     requires spare { length spare.old ≡ length other.old }
     requires later { CanAddGroups R.limit later_starts.now (map E.leaf entries.now) later_one.now two.now
@@ -105,7 +107,8 @@ fn add_quarters<Rt: Threads + Sync, E: GroupEntry + Sync, R: Row + Send>(
     let looks = entries.len();
     let mut first = || -> bool
         requires { IsSync Rt.row × IsSync E.row × IsSend R.row
-            × CanAddGroups R.limit starts.now (map E.leaf entries.now) one.now two.now (length own.now) (map R.amount other.now)
+            × CanAddGroups R.limit starts.now (map E.leaf entries.now) one.now two.now (length own.now)
+            (map R.amount other.now)
             × (cut ≤ length own.now) × (length spare.now ≡ length other.now) }
         ensures { AddsGroups starts.entry.now (map E.leaf entries.entry.now) one.entry.now two.entry.now
             (map R.amount own.exit.now) (map R.amount other.entry.now) (map R.amount other.exit.now) }
@@ -120,7 +123,8 @@ fn add_quarters<Rt: Threads + Sync, E: GroupEntry + Sync, R: Row + Send>(
             (length later_own.now) (replicate (length later_other.now) (pos 0))
             × (later_cut ≤ length later_own.now) × (length later_spare.now ≡ length later_other.now) }
         ensures { AddsGroups later_starts.entry.now (map E.leaf entries.entry.now) later_one.entry.now two.entry.now
-            (map R.amount later_own.exit.now) (replicate (length later_other.entry.now) (pos 0)) (map R.amount later_other.exit.now) }
+            (map R.amount later_own.exit.now) (replicate (length later_other.entry.now) (pos 0))
+            (map R.amount later_other.exit.now) }
     {
         clear(later_other);
         add_groups_in_two(

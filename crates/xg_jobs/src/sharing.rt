@@ -28,7 +28,8 @@ pub(crate) fn write_small_rows_by_threads<Rt: Threads + Sync, E: GroupEntry + Sy
 )
     requires sync { IsSync Rt.row }
     requires numbers { AreNumbersOf input.now.form.now input.now.one.now input.now.two.now }
-    requires fits { CanWrite (2 ^ 63) starts.now (map E.leaf entries.now) input.now.form.now input.now.one.now input.now.two.now }
+    requires fits { CanWrite (2 ^ 63) starts.now (map E.leaf entries.now) input.now.form.now input.now.one.now
+        input.now.two.now }
     requires rows_one { length rows.old.one ≡ sequence_count input.now.form.now.sets_one }
     requires rows_two { length rows.old.two ≡ sequence_count input.now.form.now.sets_two }
     ensures sums { ArePlainSums input.now.form.now input.now.one.now input.now.two.now rows.new }
@@ -69,7 +70,8 @@ fn sum_rows_in_four<Rt: Threads + Sync, E: GroupEntry + Sync, R: Row + Send>(
     fourth: &mut [R],
 ) -> bool
     requires numbers { AreNumbersOf input.now.form.now input.now.one.now input.now.two.now }
-    requires can { CanWrite R.limit starts.now (map E.leaf entries.now) input.now.form.now input.now.one.now input.now.two.now }
+    requires can { CanWrite R.limit starts.now (map E.leaf entries.now) input.now.form.now input.now.one.now
+        input.now.two.now }
     requires rows_one { length own.old ≡ sequence_count input.now.form.now.sets_one }
     requires rows_two { length other.old ≡ sequence_count input.now.form.now.sets_two }
     requires zeros { (b : ℕ) → amount_of (map R.amount other.old) b ≡ pos 0 }

@@ -1,5 +1,6 @@
 //! The table of a game's jobs.
-ghost use Rattle.std.specs.Prelude.{◌≡◌, ◌↔◌, ◌*◌, ◌-◌, ◌^◌, ◌<◌, ◌≤◌, All, length, max, IfOk, IsTrue, OnErr, OnOk, Some, map, slice_get, slice_index_or};
+ghost use Rattle.std.specs.Prelude.{◌≡◌, ◌↔◌, ◌*◌, ◌-◌, ◌^◌, ◌<◌, ◌≤◌, All, length, max, IfOk, IsTrue, OnErr, OnOk};
+ghost use Rattle.std.specs.Prelude.{Some, map, slice_get, slice_index_or};
 ghost use Rattle.std.specs.Thread.{IsSync};
 ghost use Rattle.def_history.specs.Jobs.{most_jobs};
 ghost use Rattle.def_history.specs.Leaves.{amounts};
@@ -33,8 +34,8 @@ use xg_tree::Tree;
 
 /// The jobs of a game: the subtrees below the chance nodes at the top of its tree, each with its leaves.
 ///
-/// Jobs are numbered from 0, and there are at most 4,096. Packets of jobs need the rows of each job, which a table has or
-/// hasn't; all else needs none of them.
+/// Jobs are numbered from 0, and there are at most 4,096. Packets of jobs need the rows of each job, which a table has
+/// or hasn't; all else needs none of them.
 #[derive(Drop)]
 pub struct JobTable {
     ranges: Vec<LeafRange>,

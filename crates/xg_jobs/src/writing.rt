@@ -24,7 +24,8 @@ pub(crate) fn write_rows<E: GroupEntry>(
     rows: &mut Rows,
 )
     requires numbers { AreNumbersOf input.now.form.now input.now.one.now input.now.two.now }
-    requires can { CanWrite (2 ^ 127) starts.now (map E.leaf entries.now) input.now.form.now input.now.one.now input.now.two.now }
+    requires can { CanWrite (2 ^ 127) starts.now (map E.leaf entries.now) input.now.form.now input.now.one.now
+        input.now.two.now }
     requires rows_one { length rows.old.one ≡ sequence_count input.now.form.now.sets_one }
     requires rows_two { length rows.old.two ≡ sequence_count input.now.form.now.sets_two }
     ensures { ArePlainSums input.now.form.now input.now.one.now input.now.two.now rows.new }
@@ -41,7 +42,8 @@ pub(crate) fn write_small_rows<E: GroupEntry>(
     rows: &mut SmallRows,
 )
     requires numbers { AreNumbersOf input.now.form.now input.now.one.now input.now.two.now }
-    requires fits { CanWrite (2 ^ 63) starts.now (map E.leaf entries.now) input.now.form.now input.now.one.now input.now.two.now }
+    requires fits { CanWrite (2 ^ 63) starts.now (map E.leaf entries.now) input.now.form.now input.now.one.now
+        input.now.two.now }
     requires rows_one { length rows.old.one ≡ sequence_count input.now.form.now.sets_one }
     requires rows_two { length rows.old.two ≡ sequence_count input.now.form.now.sets_two }
     ensures sums { ArePlainSums input.now.form.now input.now.one.now input.now.two.now rows.new }
@@ -62,7 +64,8 @@ fn sum_rows<E: GroupEntry, R: Row>(
     other: &mut [R],
 )
     requires numbers { AreNumbersOf input.now.form.now input.now.one.now input.now.two.now }
-    requires can { CanWrite R.limit starts.now (map E.leaf entries.now) input.now.form.now input.now.one.now input.now.two.now }
+    requires can { CanWrite R.limit starts.now (map E.leaf entries.now) input.now.form.now input.now.one.now
+        input.now.two.now }
     requires rows_one { length own.old ≡ sequence_count input.now.form.now.sets_one }
     requires rows_two { length other.old ≡ sequence_count input.now.form.now.sets_two }
     requires zeros { (b : ℕ) → amount_of (map R.amount other.old) b ≡ pos 0 }
@@ -80,9 +83,11 @@ pub(crate) fn write_alone<E: GroupEntry, R: Row>(
     input: &PlayerInput<'_>,
     rows: &mut [R],
 )
-    requires numbers { length input.now.against.now ≡ sequence_count (player_sets input.now.form.now (opponent input.now.player)) }
+    requires numbers { length input.now.against.now ≡ sequence_count
+        (player_sets input.now.form.now (opponent input.now.player)) }
     requires small { All (λ n. n ≤ most_root) input.now.against.now }
-    requires can { CanWrite R.limit starts.now (map E.leaf entries.now) input.now.form.now input.now.against.now input.now.against.now }
+    requires can { CanWrite R.limit starts.now (map E.leaf entries.now) input.now.form.now input.now.against.now
+        input.now.against.now }
     requires count { length rows.old ≡ sequence_count (player_sets input.now.form.now input.now.player) }
     requires zeros { (b : ℕ) → amount_of (map R.amount rows.old) b ≡ pos 0 }
     ensures { map R.amount rows.new ≡ player_rows input.now.form.now input.now.player input.now.against.now }

@@ -27,7 +27,8 @@ added_more plan other times i sums below upto =
       done = λ s low.
           ⊎_elim
           (λ last. let is : s ≡ i = last in
-          ap (λ t. get_or (set sums i n) t 0) is ∙ get_or-set_same sums i n 0 (omega (arith, upto.count)) ∙ ap (λ m. m + times * get_or other i 0) (upto.rest i (omega arith)) ∙ ap (λ t. get_or plan t 0 + times * get_or other t 0) (sym is))
+          ap (λ t. get_or (set sums i n) t 0) is ∙ get_or-set_same sums i n 0 (omega (arith, upto.count))
+          ∙ ap (λ m. m + times * get_or other i 0) (upto.rest i (omega arith)) ∙ ap (λ t. get_or plan t 0 + times * get_or other t 0) (sym is))
           (λ earlier. let apart : s ≢ i = earlier in get_or-set_other sums i s n 0 apart ∙ upto.done s (omega arith))
           (cases_eq s i);
       rest = λ s low. let apart : s ≢ i = omega arith in get_or-set_other sums i s n 0 apart ∙ upto.rest s (omega arith);
@@ -55,7 +56,12 @@ pub small_sums : (sets : List InformationSet) (sum plan : List ℕ) (times : ℕ
     → slice_index sum 0 + times * slice_index plan 0 ≤ most_root → (s : ℕ)
     → slice_index sum s + times * slice_index plan s < 2 ^ 64
 small_sums sets sum plan times order sum_is plan_is limit s =
-    omega (arith, below_root sets (slice_index sum 0) sum order sum_is s, mul-le-mul_left times (below_root sets (slice_index plan 0) plan order plan_is s), limit)
+    omega (
+      arith,
+      below_root sets (slice_index sum 0) sum order sum_is s,
+      mul-le-mul_left times (below_root sets (slice_index plan 0) plan order plan_is s),
+      limit,
+    )
 
 -- a plan without a root adds nothing
 pub no_root_adds_nothing : (sets : List InformationSet) (root : ℕ) (sum plan : List ℕ) (times : ℕ)

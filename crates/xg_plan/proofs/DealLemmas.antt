@@ -48,7 +48,8 @@ dealt_to_none sets play plan root long is_root = record {
 pub small_before : (sets : List InformationSet) (play : List ℕ) (root k : ℕ) (plan : List ℕ) → AreInOrder sets
     → k < length sets → IsDealtUpTo sets play root k plan
     → (d : PlacedSet) → slice_index plan (get_or (placed sets) k d).before ≤ root
-small_before sets play root k plan order below upto d = let at = set_at sets k d order below in upto.small (get_or (placed sets) k d).before (omega (arith, at.first, at.earlier))
+small_before sets play root k plan order below upto d = let at = set_at sets k d order below in upto.small (get_or (placed sets) k d).before
+    (omega (arith, at.first, at.earlier))
 
 -- the numbers that a set gets now are dealt from the number before it by the play
 abbrev pub IsDealtFrom : List ℕ → List ℕ → List ℕ → PlacedSet → Type 0
@@ -73,7 +74,11 @@ dealt_more_sets sets play root k plan next order below upto deals =
     let at_d : SetAt sets k (get_or (placed sets) k d) = set_at sets k d order below in
     deals.dealt d ∙ ap (play_rule play (get_or (placed sets) k d)) (sym (deals.earlier d (get_or (placed sets) k d).before at_d.earlier)) in
     let all : AddsUp next h = adds_up play next h at.some (here no_place) in
-    let within : slice_index next h.before ≤ root = omega (arith, stays h.before (omega (arith, at.first, at.earlier)), upto.small h.before (omega (arith, at.first, at.earlier))) in
+    let within : slice_index next h.before ≤ root = omega (
+      arith,
+      stays h.before (omega (arith, at.first, at.earlier)),
+      upto.small h.before (omega (arith, at.first, at.earlier)),
+    ) in
     record {
       all_sequences = deals.count ∙ upto.all_sequences;
       root_weight = stays 0 (omega arith) ∙ upto.root_weight;
@@ -113,7 +118,8 @@ dealt_to_all sets play root plan order some upto = record {
 -- what is dealt up to the last set is the plan of the play
 pub dealt_is_plan_of_play : (sets : List InformationSet) (play : List ℕ) (root : ℕ) (plan : List ℕ) → AreInOrder sets
     → 1 ≤ root → IsDealtUpTo sets play root (length sets) plan → plan ≡ plan_of_play sets play root
-dealt_is_plan_of_play sets play root plan order some upto = plans_of_plays_are_unique sets play root plan order (dealt_to_all sets play root plan order some upto)
+dealt_is_plan_of_play sets play root plan order some upto = plans_of_plays_are_unique sets play root plan order
+    (dealt_to_all sets play root plan order some upto)
 
 -- the play of a set gives out all units, as a part of the list
 pub part_whole : (play : List ℕ) (first actions : ℕ) → first + actions ≤ length play
@@ -141,7 +147,8 @@ block_deals play plan block rest n first actions inside as_many dealt =
     let rule : block ≡ shares n weights = dealt ∙ ap (shares n) (part_is play first actions (omega (arith, inside, as_many))) in
     let many : length block ≡ actions = ap length rule ∙ length-shares n weights ∙ length-map-range_with_len (λ s. slice_index play s) first actions in
     let new : List ℕ = take first plan ++ (block ++ rest) in
-    ap (λ m. map (λ s. slice_index new s) (range_with_len first m)) (sym many) ∙ map-block (take first plan) block rest first 0 (length-take-le first plan (omega (arith, inside))) ∙ rule
+    ap (λ m. map (λ s. slice_index new s) (range_with_len first m)) (sym many)
+    ∙ map-block (take first plan) block rest first 0 (length-take-le first plan (omega (arith, inside))) ∙ rule
 
 -- a set that is dealt at its place among the sets
 pub deals_at : (sets : List InformationSet) (play : List ℕ) (k first actions before : ℕ) (plan next : List ℕ)

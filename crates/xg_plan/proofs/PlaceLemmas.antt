@@ -1,5 +1,6 @@
 -- Where a set's sequences stand, from what a form tells of the set.
-use Rattle.std.proofs.Common.{◌≡◌, ℕ, zero, suc, ◌+◌, ◌-◌, ◌<◌, ◌≤◌, List, [], ◌∷◌, length, get_or, take, drop, map, ap, sym, ◌∙◌, arith, Some, slice_get, slice_index}
+use Rattle.std.proofs.Common.{◌≡◌, ℕ, zero, suc, ◌+◌, ◌-◌, ◌<◌, ◌≤◌, List, [], ◌∷◌, length, get_or, take, drop, map, ap, sym, ◌∙◌, arith, Some, slice_get}
+use Rattle.std.proofs.Common.{slice_index}
 use Rattle.std.specs.List.{range_with_len}
 use Rattle.std.proofs.Math.Seq.{take-append_seam}
 use Rattle.std.proofs.lemmas.List.{length-map, take_more}
@@ -46,7 +47,8 @@ set_at sets k d order below =
     let is = at-placed 1 sets k d no_information_set below in
     let ordered = order k d (omega (arith, length-placed 1 sets)) in
     let more : total_actions (take (k + 1) sets) ≡ total_actions (take k sets) + (get_or sets k no_information_set).actions =
-    ap total_actions (take_more sets k no_information_set below) ∙ nat_sum_over-append (λ (h : InformationSet). h.actions) (take k sets) (get_or sets k no_information_set ∷ []) ∙ omega arith in
+    ap total_actions (take_more sets k no_information_set below) ∙ nat_sum_over-append (λ (h : InformationSet). h.actions) (take k sets)
+    (get_or sets k no_information_set ∷ []) ∙ omega arith in
     record {
       first = ap (λ (h : PlacedSet). h.first) is;
       next = omega (arith, more, ap (λ (h : PlacedSet). h.first) is, ap (λ (h : PlacedSet). h.actions) is);

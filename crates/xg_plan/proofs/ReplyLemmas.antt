@@ -36,7 +36,8 @@ set-set_replies [] [] k value choice same = refl
 set-set_replies [] (c ∷ cs) k value choice same = absurd (omega arith)
 set-set_replies (v ∷ vs) [] k value choice same = absurd (omega arith)
 set-set_replies (v ∷ vs) (c ∷ cs) zero value choice same = refl
-set-set_replies (v ∷ vs) (c ∷ cs) (suc k) value choice same = ap (λ rs. record { value = v; choice = c } ∷ rs) (set-set_replies vs cs k value choice (omega arith))
+set-set_replies (v ∷ vs) (c ∷ cs) (suc k) value choice same = ap (λ rs. record { value = v; choice = c } ∷ rs)
+    (set-set_replies vs cs k value choice (omega arith))
 
 -- the same value and choice at each set
 pub replicate-set_replies : (n : ℕ) (value : ℤ) (choice : ℕ)
@@ -53,6 +54,7 @@ pub first_is : (sets : List InformationSet) (values : List ℤ) (choices : List 
     → n ≡ length sets → m ≡ sequence_count sets → worked (pos 0) values choices worths ≡ first_reply sets
 first_is sets values choices worths n m zeros ones nothing is_n is_m =
     let rows : set_replies values choices ≡ replicate (length sets) (record { value = pos 0; choice = 1 }) =
-    ap (λ vs. set_replies vs choices) zeros ∙ ap (set_replies (replicate n (pos 0))) ones ∙ replicate-set_replies n (pos 0) 1 ∙ ap (λ k. replicate k (record { value = pos 0; choice = 1 })) is_n in
+    ap (λ vs. set_replies vs choices) zeros ∙ ap (set_replies (replicate n (pos 0))) ones ∙ replicate-set_replies n (pos 0) 1
+    ∙ ap (λ k. replicate k (record { value = pos 0; choice = 1 })) is_n in
     let room : worths ≡ replicate (sequence_count sets) (pos 0) = nothing ∙ ap (λ k. replicate k (pos 0)) is_m in
     ap (λ rs. with rs worths) rows ∙ ap (with (replicate (length sets) (record { value = pos 0; choice = 1 }))) room

@@ -1,5 +1,6 @@
 -- Prefix sums of weights, and when a list is the shares of n.
-use Rattle.std.proofs.Common.{◌≡◌, ℕ, zero, suc, ◌+◌, ◌*◌, ◌/◌, ◌<◌, ◌≤◌, ◌≢◌, List, [], ◌∷◌, length, get_or, map, replicate, ℤ, pos, negsuc, ◌≤ℤ◌, unsigned_abs, refl, sym, ap, ◌∙◌, arith, ⊎_elim, below_more}
+use Rattle.std.proofs.Common.{◌≡◌, ℕ, zero, suc, ◌+◌, ◌*◌, ◌/◌, ◌<◌, ◌≤◌, ◌≢◌, List, [], ◌∷◌, length, get_or, map, replicate, ℤ, pos, negsuc, ◌≤ℤ◌}
+use Rattle.std.proofs.Common.{unsigned_abs, refl, sym, ap, ◌∙◌, arith, ⊎_elim, below_more}
 use Rattle.std.proofs.Math.ListN.{get_or-map, set}
 use Rattle.std.proofs.Math.Nat.{mul-le-mul_left, mul-div_left}
 use Rattle.std.proofs.lemmas.Bool.{cases_eq, cases_lt}
@@ -56,14 +57,21 @@ pub zeros_are_shares : (ws out : List ℕ) → length out ≡ length ws → ((k 
     → out ≡ shares 0 ws
 zeros_are_shares ws out long each =
     ⊎_elim
-    (λ some. dealt_is_shares 0 ws out long some (λ k below. omega (arith, each k below, zero_over (prefix_sum ws k) (weight_sum ws) some, zero_over (prefix_sum ws (k + 1)) (weight_sum ws) some)))
-    (λ none. even_is_shares 0 ws out long (omega arith) (λ k below. omega (arith, each k below, zero_over k (length ws) (omega arith), zero_over (k + 1) (length ws) (omega arith))))
+    (λ some. dealt_is_shares 0 ws out long some (λ k below. omega (
+      arith,
+      each k below,
+      zero_over (prefix_sum ws k) (weight_sum ws) some,
+      zero_over (prefix_sum ws (k + 1)) (weight_sum ws) some,
+    )))
+    (λ none. even_is_shares 0 ws out long (omega arith) (λ k below. omega
+    (arith, each k below, zero_over k (length ws) (omega arith), zero_over (k + 1) (length ws) (omega arith))))
     (cases_lt 0 (weight_sum ws))
 
 -- in particular where zeros are written
 pub no_shares : (n m : ℕ) (ws out : List ℕ) → n ≡ 0 → out ≡ replicate m 0 → m ≡ length ws → out ≡ shares n ws
 no_shares n m ws out none zeros many =
-    zeros_are_shares ws out (ap length zeros ∙ length-replicate m 0 ∙ many) (λ k below. ap (λ xs. get_or xs k 0) zeros ∙ get_or-replicate m k 0 0 (omega (arith, many, below)))
+    zeros_are_shares ws out (ap length zeros ∙ length-replicate m 0 ∙ many)
+    (λ k below. ap (λ xs. get_or xs k 0) zeros ∙ get_or-replicate m k 0 0 (omega (arith, many, below)))
     ∙ ap (λ a. shares a ws) (sym none)
 
 -- one more share in a list of differences
@@ -112,7 +120,15 @@ one_share n ws out one long some all =
     dealt_is_shares n ws out (omega arith) some
     (λ k below.
     let none : k ≡ 0 = omega arith in
-    omega (arith, ap (λ k. get_or out k 0) none, ap (λ k. prefix_share n ws k) none, ap (λ k. prefix_share n ws (k + 1)) none, nothing_over n (weight_sum ws) some, at_one, all))
+    omega (
+      arith,
+      ap (λ k. get_or out k 0) none,
+      ap (λ k. prefix_share n ws k) none,
+      ap (λ k. prefix_share n ws (k + 1)) none,
+      nothing_over n (weight_sum ws) some,
+      at_one,
+      all,
+    ))
 
 -- the first of two weights gets its part, rounded down, and the other one the rest
 pub two_shares : (n q : ℕ) (ws out : List ℕ) → length ws ≡ 2 → length out ≡ 2 → 1 ≤ weight_sum ws → get_or out 0 0 ≡ q
@@ -127,6 +143,22 @@ two_shares n q ws out two long some first second is =
     dealt_is_shares n ws out (omega arith) some
     (λ k below.
     ⊎_elim
-    (λ zero_is. omega (arith, ap (λ k. get_or out k 0) zero_is, ap (λ k. prefix_share n ws k) zero_is, ap (λ k. prefix_share n ws (k + 1)) zero_is, at_none, at_one, first))
-    (λ other. let one_is : k ≡ 1 = omega arith in omega (arith, ap (λ k. get_or out k 0) one_is, ap (λ k. prefix_share n ws k) one_is, ap (λ k. prefix_share n ws (k + 1)) one_is, at_one, at_two, second))
+    (λ zero_is. omega (
+      arith,
+      ap (λ k. get_or out k 0) zero_is,
+      ap (λ k. prefix_share n ws k) zero_is,
+      ap (λ k. prefix_share n ws (k + 1)) zero_is,
+      at_none,
+      at_one,
+      first,
+    ))
+    (λ other. let one_is : k ≡ 1 = omega arith in omega (
+      arith,
+      ap (λ k. get_or out k 0) one_is,
+      ap (λ k. prefix_share n ws k) one_is,
+      ap (λ k. prefix_share n ws (k + 1)) one_is,
+      at_one,
+      at_two,
+      second,
+    ))
     (cases_eq k 0))

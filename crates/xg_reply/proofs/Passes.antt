@@ -1,5 +1,6 @@
 -- A pass over the sets from the last one on: the replies from a set on, and the worths that these alone make.
-use Rattle.std.proofs.Common.{◌≡◌, ℕ, zero, suc, ◌+◌, ◌-◌, ◌^◌, ◌<◌, ◌≤◌, cond, eqb, List, [], ◌∷◌, length, get_or, drop, map, zip, filter, ℤ, pos, ◌+ℤ◌, unsigned_abs, refl, ap, sym, subst, ◌∙◌, arith, drop-cons, ⊎_elim, ne_eqb}
+use Rattle.std.proofs.Common.{◌≡◌, ℕ, zero, suc, ◌+◌, ◌-◌, ◌^◌, ◌<◌, ◌≤◌, cond, eqb, List, [], ◌∷◌, length, get_or, drop, map, zip, filter, ℤ, pos, ◌+ℤ◌}
+use Rattle.std.proofs.Common.{unsigned_abs, refl, ap, sym, subst, ◌∙◌, arith, drop-cons, ⊎_elim, ne_eqb}
 use Rattle.std.specs.List.{range_with_len}
 use Rattle.std.proofs.Math.ListN.{set}
 use Rattle.std.proofs.lemmas.Bool.{cases_eq, eq-eqb}

@@ -19,8 +19,8 @@ t "" 1 { 4, -4 }
 t "" 2 { 1, -1 }
 "#;
 
-/// The status of a run over files and a sink that can't fail. Their counts of faults are always 0, so it is neither that
-/// of a read fault nor that of a write fault.
+/// The status of a run over files and a sink that can't fail. Their counts of faults are always 0, so it is neither
+/// that of a read fault nor that of a write fault.
 fn sure_status<Rt: Threads + Wait + Sync + AllocGlobal>(
     rt: &Rt,
     words: &Words,

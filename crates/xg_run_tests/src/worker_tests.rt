@@ -7,9 +7,8 @@ use std::test::Fail;
 use std::thread::Threads;
 use xg_io::{Gate, MemSink, OpenGate};
 use xg_run::run;
-use xg_test_data::certificates;
 use xg_test_data::files::{ONE_MOVER, TWO_JOBS};
-use xg_test_data::{Delays, HeldPass, HeldStripe, Meeting, StripeCount};
+use xg_test_data::{Delays, HeldPass, HeldStripe, Meeting, StripeCount, certificates};
 
 const SOLVE: &str = "solve game --rounds 1";
 

@@ -1,5 +1,6 @@
 -- A node's set and outcome are in the game's tables, which hold the probabilities and the payoffs.
-use Rattle.std.proofs.Common.{◌≡◌, ◌≢◌, ℕ, zero, suc, ◌+◌, ◌-◌, ◌≤◌, List, [], length, cond, refl, ap, sym, subst, ◌∙◌, arith, inl, inr, ◌⊎◌, Bool, true, false, Some, None, slice_get}
+use Rattle.std.proofs.Common.{◌≡◌, ◌≢◌, ℕ, zero, suc, ◌+◌, ◌-◌, ◌≤◌, List, [], length, cond, refl, ap, sym, subst, ◌∙◌, arith, inl, inr, ◌⊎◌, Bool, true, false}
+use Rattle.std.proofs.Common.{Some, None, slice_get}
 use Rattle.std.specs.Prelude.{All, option_map}
 use Rattle.std.proofs.lemmas.List.{get_or-map, length-map}
 use Rattle.std.proofs.lemmas.Option.{get_or_from_slice_get, slice_get-map, slice_get_past}
@@ -91,7 +92,8 @@ paid_is game player zero there = paid_given player null_outcome
 paid_is game player (suc outcome) there =
     ap (payoff_to player) (numbered outcome game.outcomes) ∙
     paid_given player (outcome_at game.outcomes outcome)
-    ∙ ap (paid_to player) (sym (get_or-map payoffs_given game.outcomes outcome null_outcome (record { one = zero_fraction; two = zero_fraction }) (omega arith)))
+    ∙ ap (paid_to player) (sym (get_or-map payoffs_given game.outcomes outcome null_outcome (record { one = zero_fraction; two = zero_fraction })
+    (omega arith)))
 
 -- the null outcome pays nothing
 pub paid_null : (game : GameFile) (player : Player) → paid_to player (payoffs_of (tables_of game) 0) ≡ zero_fraction

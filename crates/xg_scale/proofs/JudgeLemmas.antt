@@ -1,5 +1,6 @@
 -- What is judged by a path's numbers is what the walk over the nodes looks for.
-use Rattle.std.proofs.Common.{◌≡◌, ℕ, ◌+◌, ◌-◌, ◌<◌, ◌≤◌, Bool, true, false, cond, ◌&&◌, List, [], ◌∷◌, ◌++◌, get_or, take, map, filter, refl, ap, sym, ◌∙◌, arith, append-nil, Some, None, slice_get}
+use Rattle.std.proofs.Common.{◌≡◌, ℕ, ◌+◌, ◌-◌, ◌<◌, ◌≤◌, Bool, true, false, cond, ◌&&◌, List, [], ◌∷◌, ◌++◌, get_or, take, map, filter, refl, ap, sym, ◌∙◌}
+use Rattle.std.proofs.Common.{arith, append-nil, Some, None, slice_get}
 use Rattle.std.specs.Prelude.{Option, nat_le, unwrap_or}
 use Rattle.std.proofs.lemmas.List.{map-append, take_all}
 use Rattle.std.proofs.lemmas.List.Elements.{All-cons, All-map, filter-append}
@@ -71,7 +72,8 @@ leaves_more : (before : List Visit) (v : Visit) (b : Bool) → is_leaf_kind v.no
     → filter (λ (w : Visit). is_leaf_kind w.node.kind) (before ++ v ∷ [])
     ≡ filter (λ (w : Visit). is_leaf_kind w.node.kind) before ++ cond b (v ∷ []) []
 leaves_more before v b is =
-    filter-append (λ (w : Visit). is_leaf_kind w.node.kind) before (v ∷ []) ∙ ap (λ c. filter (λ (w : Visit). is_leaf_kind w.node.kind) before ++ cond c (v ∷ []) []) is
+    filter-append (λ (w : Visit). is_leaf_kind w.node.kind) before (v ∷ [])
+    ∙ ap (λ c. filter (λ (w : Visit). is_leaf_kind w.node.kind) before ++ cond c (v ∷ []) []) is
 
 first_known : (tables : Tables) (leaves : List Visit) (v : Visit)
     → first_sum tables (leaves ++ v ∷ []) ≡ unwrap_or (sum_of_first tables leaves) (paid_together tables v)
@@ -157,7 +159,8 @@ module _ (tables : Tables) (lowest : AreFractions tables) (tree : Forest) (game 
   pub node_judged : node_fault tables before v ≡ cond (all_fit (numbers_on_path tables v))
       (judged_node (n + 1) x known unit (numbers_on_path tables v)) (Some (Scale (n + 1)))
   node_judged =
-      all_passing (fits (reach tables v.path)) (fits (payoff_one tables v)) (fits (payoff_two tables v)) (Scale (number_after before)) (cond (is_leaf_kind v.node.kind) (leaf_fault tables before v) None)
+      all_passing (fits (reach tables v.path)) (fits (payoff_one tables v)) (fits (payoff_two tables v)) (Scale (number_after before))
+      (cond (is_leaf_kind v.node.kind) (leaf_fault tables before v) None)
       ∙ (λ i. cond (all_fit (numbers_on_path tables v)) (judged i) (Some (Scale (number i))))
     where
       judged : cond (is_leaf_kind v.node.kind)
@@ -167,8 +170,10 @@ module _ (tables : Tables) (lowest : AreFractions tables) (tree : Forest) (game 
           by : (b : Bool) → is_leaf_kind x.kind ≡ b
               → cond (is_leaf_kind v.node.kind) (leaf_fault tables before v) None
               ≡ cond (is_leaf_kind x.kind) (judged_leaf (n + 1) known unit (numbers_on_path tables v)) None
-          by true leaf = ap (λ b. cond b (leaf_fault tables before v) None) (is_leaf ∙ leaf) ∙ leaf_judged (is_leaf ∙ leaf) ∙ sym (ap (λ b. cond b (judged_leaf (n + 1) known unit (numbers_on_path tables v)) None) leaf)
-          by false inner = ap (λ b. cond b (leaf_fault tables before v) None) (is_leaf ∙ inner) ∙ sym (ap (λ b. cond b (judged_leaf (n + 1) known unit (numbers_on_path tables v)) None) inner)
+          by true leaf = ap (λ b. cond b (leaf_fault tables before v) None) (is_leaf ∙ leaf) ∙ leaf_judged (is_leaf ∙ leaf)
+              ∙ sym (ap (λ b. cond b (judged_leaf (n + 1) known unit (numbers_on_path tables v)) None) leaf)
+          by false inner = ap (λ b. cond b (leaf_fault tables before v) None) (is_leaf ∙ inner)
+              ∙ sym (ap (λ b. cond b (judged_leaf (n + 1) known unit (numbers_on_path tables v)) None) inner)
 
   -- the sum that is known with one more node
   pub known_more : known_sum tables (take (n + 1) (visits tree)) ≡ known_with x known (numbers_on_path tables v)
@@ -198,9 +203,11 @@ module _ (tables : Tables) (lowest : AreFractions tables) (tree : Forest) (game 
   -- what one more node is expected to pay
   pub expected_with : expected_at tables (take (n + 1) (visits tree))
       ≡ expected_at tables before ++ with_expected x (numbers_on_path tables v)
-  expected_with = ap (expected_at tables) next.taken ∙ expected_more tables before v ∙ ap (λ b. expected_at tables before ++ cond b (expected tables v ∷ []) []) is_leaf
+  expected_with = ap (expected_at tables) next.taken ∙ expected_more tables before v
+      ∙ ap (λ b. expected_at tables before ++ cond b (expected tables v ∷ []) []) is_leaf
 
   -- what one more node pays player one
   pub payoffs_with : payoffs_at tables (take (n + 1) (visits tree))
       ≡ payoffs_at tables before ++ with_payoff x (numbers_on_path tables v)
-  payoffs_with = ap (payoffs_at tables) next.taken ∙ payoffs_more tables before v ∙ ap (λ b. payoffs_at tables before ++ cond b (payoff_one tables v ∷ []) []) is_leaf
+  payoffs_with = ap (payoffs_at tables) next.taken ∙ payoffs_more tables before v
+      ∙ ap (λ b. payoffs_at tables before ++ cond b (payoff_one tables v ∷ []) []) is_leaf

@@ -1,6 +1,7 @@
 -- A walk through the trees at a node's actions, below the nodes around it, finds the first fault among their nodes, or
 -- what their leaves are expected to pay.
-use Rattle.std.proofs.Common.{◌≡◌, ℕ, suc, ◌+◌, ◌-◌, ◌<◌, ◌≤◌, Bool, true, false, cond, List, [], ◌∷◌, ◌++◌, length, take, drop, map, refl, ap, sym, subst, ◌∙◌, arith, append-nil, Some, None, slice_get}
+use Rattle.std.proofs.Common.{◌≡◌, ℕ, suc, ◌+◌, ◌-◌, ◌<◌, ◌≤◌, Bool, true, false, cond, List, [], ◌∷◌, ◌++◌, length, take, drop, map, refl, ap, sym, subst, ◌∙◌}
+use Rattle.std.proofs.Common.{arith, append-nil, Some, None, slice_get}
 use Rattle.std.specs.Prelude.{Option, option_map, unwrap_or}
 use Rattle.std.proofs.lemmas.Option.{slice_get-get_or, slice_get-map}
 use Rattle.def_tree.specs.declared.Kind.TheVariants.{Chance}
@@ -32,10 +33,12 @@ use Rattle.xg_scale.specs.FaultOfFile.{RefusesBy}
 use Rattle.xg_scale.specs.Leaf.{judged_node, known_with, unit_with, with_expected, with_payoff}
 use Rattle.xg_scale.specs.Range.{IsRangeOf}
 use Rattle.xg_scale.specs.OnPath.{GoesBackTo, HasNodeAround, at_action, chance_set_of, entered_node, empty_path}
-use Rattle.xg_scale.specs.Walked.{Enters, HasEntered, HasLeft, IsBefore, IsExpectedOf, Leaves, MayCome, MayComeNext, MayEnter, MayLeave, all_fit, known_sum, next_fault, numbers_at_next, numbers_below, numbers_on_path, payoffs_at, reach_below}
+use Rattle.xg_scale.specs.Walked.{Enters, HasEntered, HasLeft, IsBefore, IsExpectedOf, Leaves, MayCome, MayComeNext, MayEnter, MayLeave, all_fit, known_sum}
+use Rattle.xg_scale.specs.Walked.{next_fault, numbers_at_next, numbers_below, numbers_on_path, payoffs_at, reach_below}
 use Rattle.xg_scale.proofs.FoundLemmas.{found_later, found_none, refuses_here}
 use Rattle.xg_scale.proofs.GameLemmas.{goes_with, in_chance_set, tree_rules}
-use Rattle.xg_scale.proofs.JudgeLemmas.{expected_all, expected_with, known_all, known_more, node_judged, payoffs_all, payoffs_with, unit_all, unit_from_one, unit_more}
+use Rattle.xg_scale.proofs.JudgeLemmas.{expected_all, expected_with, known_all, known_more, node_judged, payoffs_all, payoffs_with, unit_all, unit_from_one}
+use Rattle.xg_scale.proofs.JudgeLemmas.{unit_more}
 use Rattle.xg_tree.proofs.BelowLemmas.{KeepsPlaces, walked}
 use Rattle.xg_tree.proofs.StoppedLemmas.{OrStopped, may_step, stepped}
 use Rattle.xg_tree.proofs.VisitorLemmas.{RunsTo}
@@ -101,7 +104,8 @@ module _ (game : GameFile) (lowest : AreFractions (tables_of game)) (whole : IsW
   reach_from : (node : Node) (path : List Move) (a : ℕ) →
       reach tables (record { node = node; action = a } ∷ path) ≡ reach_below tables (chance_set_of node) a (reach tables path)
   reach_from node path a =
-      elim (is_same_kind Chance node.kind) as (λ b. cond b (product_of (reach tables path) (probability tables node.set a)) (reach tables path) ≡ reach_below tables (cond b (Some node.set) None) a (reach tables path)) [
+      elim (is_same_kind Chance node.kind) as (λ b. cond b (product_of (reach tables path) (probability tables node.set a)) (reach tables path)
+      ≡ reach_below tables (cond b (Some node.set) None) a (reach tables path)) [
         | true ↦ refl
         | false ↦ refl
       ]
@@ -157,7 +161,8 @@ module _ (game : GameFile) (lowest : AreFractions (tables_of game)) (whole : IsW
         ∙ ap (λ (w : Visit). Some w.node) first
 
     few_children : x.children ≤ 1024
-    few_children = children-le (map (λ (w : Visit). w.node) (take n all)) x (subst (Fits (map (λ (w : Visit). w.node) (take n all))) (ap (λ (w : Visit). w.node) first) is_next.fits)
+    few_children = children-le (map (λ (w : Visit). w.node) (take n all)) x
+        (subst (Fits (map (λ (w : Visit). w.node) (take n all))) (ap (λ (w : Visit). w.node) first) is_next.fits)
 
     chance_kind : (set : ℕ) (b : Bool) → is_same_kind Chance x.kind ≡ b → cond b (Some x.set) None ≡ Some set
         → (x.kind ≡ Chance) × (x.set ≡ set)
@@ -169,7 +174,8 @@ module _ (game : GameFile) (lowest : AreFractions (tables_of game)) (whole : IsW
     below_set set e =
         let is = chance_kind set (is_same_kind Chance x.kind) refl e in
         let known = in_chance_set game whole n x read is.0 in
-        let InTable : ℕ → Type 0 = λ s. (1 ≤ s) × (s ≤ length game.sets.chance) × (1 + tree_count below ≡ length (set_at game.sets.chance (s - 1)).actions + 1) in
+        let InTable : ℕ → Type 0 = λ s. (1 ≤ s) × (s ≤ length game.sets.chance)
+        × (1 + tree_count below ≡ length (set_at game.sets.chance (s - 1)).actions + 1) in
         subst InTable is.1 (known.from_one, known.there, omega (arith, known.actions, next.children.0))
 
     -- the trees below the first node, and those beside it
@@ -224,7 +230,8 @@ module _ (game : GameFile) (lowest : AreFractions (tables_of game)) (whole : IsW
       fault_is : node_fault tables (take n all) v ≡ next_fault walk (n + 1) x
       fault_is =
           node_judged tables lowest game.tree rules n there x read
-          ∙ sym ((λ i. cond (all_fit (numbers_at_visit i)) (judged_node (n + 1) x (on.passed.sum i) (on.passed.unit i) (numbers_at_visit i)) (Some (Scale (n + 1)))))
+          ∙ sym ((λ i. cond (all_fit (numbers_at_visit i)) (judged_node (n + 1) x (on.passed.sum i) (on.passed.unit i) (numbers_at_visit i))
+          (Some (Scale (n + 1)))))
 
       may_come_next : MayComeNext walk x
       may_come_next = record {
@@ -236,7 +243,8 @@ module _ (game : GameFile) (lowest : AreFractions (tables_of game)) (whole : IsW
 
       refused_here : (r : Refused) → RefusesBy (next_fault walk (n + 1) x) r → RefusesBy found r
       refused_here r refuses =
-          subst (λ o. RefusesBy o r) (sym on.passed.rest) (refuses_here game.tree (node_fault tables) n v is_next (next_fault walk (n + 1) x) r fault_is refuses)
+          subst (λ o. RefusesBy o r) (sym on.passed.rest) (refuses_here game.tree (node_fault tables) n v is_next (next_fault walk (n + 1) x) r fault_is
+          refuses)
 
       goes_below : (new : PathWalk) → HasEntered walk (n + 1) x new
           → GoesOn (n + 1) (child place x) (around place ∷ outer) new
@@ -244,11 +252,14 @@ module _ (game : GameFile) (lowest : AreFractions (tables_of game)) (whole : IsW
         passed = record {
           rest = on.passed.rest ∙ found_later game.tree (node_fault tables) n v is_next (fault_is ∙ entered.passes);
           sum = entered.sum ∙ (λ i. known_with x (on.passed.sum i) (numbers_at_visit i)) ∙ sym (known_more tables lowest game.tree rules n there x read);
-          unit = entered.unit ∙ (λ i. unit_with x (on.passed.sum i) (on.passed.unit i) (numbers_at_visit i)) ∙ sym (unit_more tables lowest game.tree rules n there x read);
+          unit = entered.unit ∙ (λ i. unit_with x (on.passed.sum i) (on.passed.unit i) (numbers_at_visit i))
+              ∙ sym (unit_more tables lowest game.tree rules n there x read);
           limit = entered.limit;
-          fractions = entered.fractions ∙ (λ i. on.passed.fractions i ++ with_expected x (numbers_at_visit i)) ∙ sym (expected_with tables lowest game.tree rules n there x read);
+          fractions = entered.fractions ∙ (λ i. on.passed.fractions i ++ with_expected x (numbers_at_visit i))
+              ∙ sym (expected_with tables lowest game.tree rules n there x read);
           range = subst (λ payoffs. IsRangeOf payoffs new.expected.range)
-              (ap (λ numbers. payoffs_at tables (take n all) ++ with_payoff x numbers) numbers_at_visit ∙ sym (payoffs_with tables lowest game.tree rules n there x read))
+              (ap (λ numbers. payoffs_at tables (take n all) ++ with_payoff x numbers) numbers_at_visit
+              ∙ sym (payoffs_with tables lowest game.tree rules n there x read))
               (entered.range (payoffs_at tables (take n all)) on.passed.range);
         };
         innermost_is = entered.innermost ∙ ap (entered_node x) numbers_are;
@@ -326,7 +337,14 @@ module _ (game : GameFile) (lowest : AreFractions (tables_of game)) (whole : IsW
   stands_first visitor before = record {
     game_is = before.game_is;
     stands = subst (λ o. OrRefused o (GoesOn 0 empty_path [] visitor.walk)) (sym before.going) (record {
-      passed = record { rest = refl; sum = before.sum; unit = before.unit ∙ sym (running tables lowest).start_unit; limit = omega (arith, before.unit); fractions = before.fractions; range = subst (IsRangeOf []) (sym before.range) refl };
+      passed = record {
+        rest = refl;
+        sum = before.sum;
+        unit = before.unit ∙ sym (running tables lowest).start_unit;
+        limit = omega (arith, before.unit);
+        fractions = before.fractions;
+        range = subst (IsRangeOf []) (sym before.range) refl;
+      };
       innermost_is = before.innermost;
       outer_is = before.outer;
     });

@@ -1,5 +1,6 @@
 -- The walks over the chance sets: a set is asked at its first node, and stands for each of its nodes.
-use Rattle.std.proofs.Common.{◌≡◌, ℕ, suc, ◌+◌, ◌-◌, ◌<◌, ◌≤◌, max, Bool, true, false, cond, ◌&&◌, not, List, [], ◌∷◌, ◌++◌, length, take, drop, map, refl, ap, sym, subst, ◌∙◌, arith, inl, inr, ◌⊎◌, Some, None, slice_get}
+use Rattle.std.proofs.Common.{◌≡◌, ℕ, suc, ◌+◌, ◌-◌, ◌<◌, ◌≤◌, max, Bool, true, false, cond, ◌&&◌, not, List, [], ◌∷◌, ◌++◌, length, take, drop, map, refl, ap}
+use Rattle.std.proofs.Common.{sym, subst, ◌∙◌, arith, inl, inr, ◌⊎◌, Some, None, slice_get}
 use Rattle.std.specs.Prelude.{nat_lt, ◌||◌}
 use Rattle.std.specs.List.{list_any}
 use Rattle.std.proofs.lemmas.Bool.{and_parts, cases_lt, ltb-true, ltb-false, true≢false}
@@ -29,12 +30,14 @@ use Rattle.xg_scale.proofs.FoundLemmas.{found_here, found_later, number_next}
 at_chance : (test : SetTest) (tables : Tables) (before : List Visit) (v : Visit)
     → is_same_kind Chance v.node.kind ≡ true →
     node_test_of test tables before v ≡ set_fault test (number_after before) (probabilities tables v.node.set)
-at_chance Signs tables before v is = ap (λ c. passing (not (c && list_any is_negative (probabilities tables v.node.set))) (ChanceNegative (number_after before)) None) is
+at_chance Signs tables before v is = ap (λ c. passing (not (c && list_any is_negative (probabilities tables v.node.set))) (ChanceNegative (number_after before))
+    None) is
 at_chance Sums tables before v is = ap (λ c. cond c (adding_fault (number_after before) zero_fraction (probabilities tables v.node.set)) None) is
 
 elsewhere : (test : SetTest) (tables : Tables) (before : List Visit) (v : Visit)
     → is_same_kind Chance v.node.kind ≡ false → node_test_of test tables before v ≡ None
-elsewhere Signs tables before v other = ap (λ c. passing (not (c && list_any is_negative (probabilities tables v.node.set))) (ChanceNegative (number_after before)) None) other
+elsewhere Signs tables before v other = ap (λ c. passing (not (c && list_any is_negative (probabilities tables v.node.set)))
+    (ChanceNegative (number_after before)) None) other
 elsewhere Sums tables before v other = ap (λ c. cond c (adding_fault (number_after before) zero_fraction (probabilities tables v.node.set)) None) other
 
 adding_none : (m n : ℕ) (running : Fraction) (ps : List Fraction) → adding_fault m running ps ≡ None
@@ -46,7 +49,8 @@ adding_none m n running (p ∷ ps) none =
 
 -- a set without a fault has none at any of its nodes
 none_at : (test : SetTest) (m n : ℕ) (ps : List Fraction) → set_fault test m ps ≡ None → set_fault test n ps ≡ None
-none_at Signs m n ps none = passed (not (list_any is_negative ps)) (ChanceNegative n) None (passing_none (not (list_any is_negative ps)) (ChanceNegative m) None none).0
+none_at Signs m n ps none = passed (not (list_any is_negative ps)) (ChanceNegative n) None
+    (passing_none (not (list_any is_negative ps)) (ChanceNegative m) None none).0
 none_at Sums m n ps none = adding_none m n zero_fraction ps none
 
 cases_false : (a b : Bool) → a && b ≡ false → a ≡ true → b ≡ false
@@ -69,7 +73,8 @@ module _ (test : SetTest) (tables : Tables) (tree : Forest) (game : IsGameTree t
   before = map (λ (w : Visit). w.node) (take k (visits tree))
 
   nodes_more : map (λ (w : Visit). w.node) (take (k + 1) (visits tree)) ≡ before ++ x ∷ []
-  nodes_more = ap (map (λ (w : Visit). w.node)) next.taken ∙ map-append (λ (w : Visit). w.node) (take k (visits tree)) (v ∷ []) ∙ ap (λ y. before ++ y ∷ []) is_node
+  nodes_more = ap (map (λ (w : Visit). w.node)) next.taken ∙ map-append (λ (w : Visit). w.node) (take k (visits tree)) (v ∷ [])
+      ∙ ap (λ y. before ++ y ∷ []) is_node
 
   asked : (chance : is_same_kind Chance x.kind ≡ true)
       → node_test_of test tables (take k (visits tree)) v ≡ set_fault test (k + 1) (probabilities tables x.set)
@@ -113,7 +118,8 @@ module _ (test : SetTest) (tables : Tables) (tree : Forest) (game : IsGameTree t
       → IsFaultOf (found_by (node_test_of test tables) [] (visits tree)) fault
   set_broken opens fault broken =
       let parts = and_parts (is_same_kind Chance x.kind) (nat_lt seen x.set) opens in
-      subst (λ o. IsFaultOf o fault) (sym h.rest) (found_here tree (node_test_of test tables) k v next (set_fault test (k + 1) (probabilities tables x.set)) fault (asked parts.0) broken)
+      subst (λ o. IsFaultOf o fault) (sym h.rest) (found_here tree (node_test_of test tables) k v next (set_fault test (k + 1) (probabilities tables x.set))
+      fault (asked parts.0) broken)
 
   -- each other node is passed over
   pub set_passed : 1 ≤ x.set ⊎ (is_same_kind Chance x.kind ≡ false)
@@ -126,13 +132,15 @@ module _ (test : SetTest) (tables : Tables) (tree : Forest) (game : IsGameTree t
           let from_one : 1 ≤ x.set = elim counts [ inl one ↦ one | inr other ↦ absurd (true≢false (sym chance ∙ other)) ] in
           let more : max x.set seen ≡ seen = omega arith in
           record {
-            rest = h.rest ∙ found_later tree (node_test_of test tables) k v next (asked chance ∙ none_at test 0 (k + 1) (probabilities tables x.set) (h.sets x.set from_one old));
+            rest = h.rest ∙ found_later tree (node_test_of test tables) k v next
+                (asked chance ∙ none_at test 0 (k + 1) (probabilities tables x.set) (h.sets x.set from_one old));
             seen_is = sym (count_more chance ∙ more);
             sets = h.sets;
           }
       by false other =
           record {
-            rest = h.rest ∙ found_later tree (node_test_of test tables) k v next (elsewhere test tables (take k (visits tree)) v (ap (λ (y : Node). is_same_kind Chance y.kind) is_node ∙ other));
+            rest = h.rest ∙ found_later tree (node_test_of test tables) k v next
+                (elsewhere test tables (take k (visits tree)) v (ap (λ (y : Node). is_same_kind Chance y.kind) is_node ∙ other));
             seen_is = h.seen_is ∙ sym (ap (set_count Chance) nodes_more ∙ set_count-push_other Chance before x other);
             sets = h.sets;
           }

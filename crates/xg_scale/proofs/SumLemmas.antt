@@ -1,5 +1,6 @@
 -- The sum in the unit, which is asked at the first leaf.
-use Rattle.std.proofs.Common.{◌≡◌, ℕ, ◌+◌, ◌-◌, ◌<◌, ◌≤◌, Bool, true, false, not, ◌&&◌, List, [], ◌∷◌, ◌++◌, take, refl, ap, sym, subst, ◌∙◌, arith, Some, None, slice_get}
+use Rattle.std.proofs.Common.{◌≡◌, ℕ, ◌+◌, ◌-◌, ◌<◌, ◌≤◌, Bool, true, false, not, ◌&&◌, List, [], ◌∷◌, ◌++◌, take, refl, ap, sym, subst, ◌∙◌, arith, Some, None}
+use Rattle.std.proofs.Common.{slice_get}
 use Rattle.std.specs.Prelude.{nat_le, nat_lt, unsigned_abs, unwrap_or}
 use Rattle.std.proofs.lemmas.Bool.{le-ltb, leb-false, leb-true, lt-ltb}
 use Rattle.def_tree.specs.declared.Node.{Node}
@@ -60,7 +61,8 @@ module _ (tables : Tables) (tree : Forest) (found : Expected) (are : IsExpectedO
     -- a node that isn't a leaf is passed over
     pub sum_passed : is_leaf_kind x.kind ≡ false → PassedWholeSum tree size (k + 1)
     sum_passed inner =
-        passed ∙ found_later tree (whole_sum_fault size) k v next (ap (λ b. passing (not (b && nat_lt most size)) (Scale (number_after (take k (visits tree)))) None) (leaf_is ∙ inner))
+        passed ∙ found_later tree (whole_sum_fault size) k v next (ap (λ b. passing (not (b && nat_lt most size)) (Scale (number_after (take k (visits tree))))
+        None) (leaf_is ∙ inner))
 
     -- where the sum in the unit is past the limit, the first leaf has the fault
     pub sum_past : is_leaf_kind x.kind ≡ true → nat_le (unsigned_abs (weight_of found.unit f)) most ≡ false

@@ -1,5 +1,6 @@
 -- The weights of the leaves among the first nodes, and one node more.
-use Rattle.std.proofs.Common.{◌≡◌, ℕ, ◌+◌, ◌-◌, ◌<◌, ◌≤◌, Bool, true, false, cond, ◌&&◌, not, List, [], ◌∷◌, ◌++◌, length, get_or, take, drop, map, filter, refl, ap, sym, subst, ◌∙◌, arith, append-nil, length-append, take-append-drop, Some, None, slice_get}
+use Rattle.std.proofs.Common.{◌≡◌, ℕ, ◌+◌, ◌-◌, ◌<◌, ◌≤◌, Bool, true, false, cond, ◌&&◌, not, List, [], ◌∷◌, ◌++◌, length, get_or, take, drop, map, filter}
+use Rattle.std.proofs.Common.{refl, ap, sym, subst, ◌∙◌, arith, append-nil, length-append, take-append-drop, Some, None, slice_get}
 use Rattle.std.specs.Prelude.{sum, unsigned_abs, nat_lt, unwrap_or}
 use Rattle.std.proofs.lemmas.Bool.{lt-ltb, le-ltb}
 use Rattle.std.proofs.lemmas.List.{length-map, map-append}
@@ -57,7 +58,8 @@ module _ (tables : Tables) (lowest : AreFractions tables) (tree : Forest) (game 
   all_split leaf =
       ap (expected_at tables) (sym (take-append-drop k (visits tree)) ∙ ap (λ vs. before ++ vs) next.cons)
       ∙ expected-append tables before (v ∷ drop (k + 1) (visits tree))
-      ∙ ap (λ b. expected_at tables before ++ map (expected tables) (cond b (v ∷ filter (λ (w : Visit). is_leaf_kind w.node.kind) (drop (k + 1) (visits tree))) (filter (λ (w : Visit). is_leaf_kind w.node.kind) (drop (k + 1) (visits tree))))) (is_leaf ∙ leaf)
+      ∙ ap (λ b. expected_at tables before ++ map (expected tables) (cond b (v ∷ filter (λ (w : Visit). is_leaf_kind w.node.kind) (drop (k + 1) (visits tree)))
+      (filter (λ (w : Visit). is_leaf_kind w.node.kind) (drop (k + 1) (visits tree))))) (is_leaf ∙ leaf)
 
   -- what a walk over the masses looks for at a leaf
   mass_at : (unit : ℕ) (b : Bool) → is_leaf_kind x.kind ≡ true
@@ -78,7 +80,13 @@ module _ (tables : Tables) (lowest : AreFractions tables) (tree : Forest) (game 
     -- there is a fraction for the leaf
     pub fraction_there : is_leaf_kind x.kind ≡ true → length w.leaves.items < length found.fractions.items
     fraction_there leaf =
-        omega (arith, count, ap length are.fractions, ap length (all_split leaf), length-append (expected_at tables before) (expected tables v ∷ expected_at tables (drop (k + 1) (visits tree))))
+        omega (
+          arith,
+          count,
+          ap length are.fractions,
+          ap length (all_split leaf),
+          length-append (expected_at tables before) (expected tables v ∷ expected_at tables (drop (k + 1) (visits tree))),
+        )
 
     -- and it is what the leaf is expected to pay
     pub fraction_is : is_leaf_kind x.kind ≡ true → (f d : Fraction)
@@ -89,7 +97,8 @@ module _ (tables : Tables) (lowest : AreFractions tables) (tree : Forest) (game 
 
     mass_with : is_leaf_kind x.kind ≡ true
         → mass_so_far tables unit (before ++ v ∷ []) ≡ w.mass + unsigned_abs (weight_of unit (expected tables v))
-    mass_with leaf = ((running tables lowest).grow unit before v).leaf_mass (is_leaf ∙ leaf) ∙ ap (λ m. m + unsigned_abs (weight_of unit (expected tables v))) (sym h.mass_is)
+    mass_with leaf = ((running tables lowest).grow unit before v).leaf_mass (is_leaf ∙ leaf)
+        ∙ ap (λ m. m + unsigned_abs (weight_of unit (expected tables v))) (sym h.mass_is)
 
     -- a leaf more, within the limit
     pub weighed_leaf : is_leaf_kind x.kind ≡ true → (f : Fraction) → expected tables v ≡ f
@@ -97,14 +106,18 @@ module _ (tables : Tables) (lowest : AreFractions tables) (tree : Forest) (game 
         → new.mass ≡ w.mass + unsigned_abs (weight_of unit f) →
         new.leaves.items ≡ w.leaves.items ++ weight_of unit f ∷ [] → HasWeighed tables tree unit (k + 1) new
     weighed_leaf leaf f pays fits new mass leaves =
-        let total : mass_so_far tables unit (before ++ v ∷ []) ≡ w.mass + unsigned_abs (weight_of unit f) = mass_with leaf ∙ ap (λ g. w.mass + unsigned_abs (weight_of unit g)) pays in
-        let within : nat_lt most (mass_so_far tables unit (before ++ v ∷ [])) ≡ false = le-ltb most (mass_so_far tables unit (before ++ v ∷ [])) (omega (arith, total, fits)) in
+        let total : mass_so_far tables unit (before ++ v ∷ []) ≡ w.mass + unsigned_abs (weight_of unit f) = mass_with leaf
+        ∙ ap (λ g. w.mass + unsigned_abs (weight_of unit g)) pays in
+        let within : nat_lt most (mass_so_far tables unit (before ++ v ∷ []))
+        ≡ false = le-ltb most (mass_so_far tables unit (before ++ v ∷ [])) (omega (arith, total, fits)) in
         record {
           rest = h.rest ∙ found_later tree (mass_fault tables unit) k v next (mass_at unit false leaf within);
           mass_is = mass ∙ sym total ∙ ap (mass_so_far tables unit) (sym next.taken);
           limit = omega (arith, mass, fits);
-          leaves_are = leaves ∙ (λ i. h.leaves_are i ++ weight_of unit (sym pays i) ∷ []) ∙ sym (map-append (weight_of unit) (expected_at tables before) (expected tables v ∷ []))
-              ∙ ap (map (weight_of unit)) (sym (ap (expected_at tables) next.taken ∙ expected_more tables before v ∙ ap (λ b. expected_at tables before ++ cond b (expected tables v ∷ []) []) (is_leaf ∙ leaf)));
+          leaves_are = leaves ∙ (λ i. h.leaves_are i ++ weight_of unit (sym pays i) ∷ [])
+              ∙ sym (map-append (weight_of unit) (expected_at tables before) (expected tables v ∷ []))
+              ∙ ap (map (weight_of unit)) (sym (ap (expected_at tables) next.taken ∙ expected_more tables before v
+              ∙ ap (λ b. expected_at tables before ++ cond b (expected tables v ∷ []) []) (is_leaf ∙ leaf)));
         }
 
     -- a leaf more, past it
@@ -113,20 +126,25 @@ module _ (tables : Tables) (lowest : AreFractions tables) (tree : Forest) (game 
         → RefusesBy (Some (Scale (k + 1))) refusal →
         RefusesBy (found_by (mass_fault tables unit) [] (visits tree)) refusal
     weighed_past leaf f pays past refusal refuses =
-        let total : mass_so_far tables unit (before ++ v ∷ []) ≡ w.mass + unsigned_abs (weight_of unit f) = mass_with leaf ∙ ap (λ g. w.mass + unsigned_abs (weight_of unit g)) pays in
-        let beyond : nat_lt most (mass_so_far tables unit (before ++ v ∷ [])) ≡ true = lt-ltb most (mass_so_far tables unit (before ++ v ∷ [])) (omega (arith, total, past)) in
-        subst (λ o. RefusesBy o refusal) (sym h.rest) (refuses_here tree (mass_fault tables unit) k v next (Some (Scale (k + 1))) refusal (mass_at unit true leaf beyond) refuses)
+        let total : mass_so_far tables unit (before ++ v ∷ []) ≡ w.mass + unsigned_abs (weight_of unit f) = mass_with leaf
+        ∙ ap (λ g. w.mass + unsigned_abs (weight_of unit g)) pays in
+        let beyond : nat_lt most (mass_so_far tables unit (before ++ v ∷ []))
+        ≡ true = lt-ltb most (mass_so_far tables unit (before ++ v ∷ [])) (omega (arith, total, past)) in
+        subst (λ o. RefusesBy o refusal) (sym h.rest) (refuses_here tree (mass_fault tables unit) k v next (Some (Scale (k + 1))) refusal
+        (mass_at unit true leaf beyond) refuses)
 
     -- another node
     pub weighed_inner : is_leaf_kind x.kind ≡ false → HasWeighed tables tree unit (k + 1) w
     weighed_inner inner =
         let inner_is : is_leaf_kind v.node.kind ≡ false = is_leaf ∙ inner in
         record {
-          rest = h.rest ∙ found_later tree (mass_fault tables unit) k v next (ap (λ b. passing (not (b && nat_lt most (mass_so_far tables unit (before ++ v ∷ [])))) (Scale (number_after before)) None) inner_is);
+          rest = h.rest ∙ found_later tree (mass_fault tables unit) k v next
+              (ap (λ b. passing (not (b && nat_lt most (mass_so_far tables unit (before ++ v ∷ [])))) (Scale (number_after before)) None) inner_is);
           mass_is = h.mass_is ∙ sym (ap (mass_so_far tables unit) next.taken ∙ ((running tables lowest).grow unit before v).inner_mass inner_is);
           limit = h.limit;
           leaves_are = h.leaves_are
-              ∙ ap (map (weight_of unit)) (sym (ap (expected_at tables) next.taken ∙ expected_more tables before v ∙ ap (λ b. expected_at tables before ++ cond b (expected tables v ∷ []) []) inner_is ∙ append-nil (expected_at tables before)));
+              ∙ ap (map (weight_of unit)) (sym (ap (expected_at tables) next.taken ∙ expected_more tables before v
+              ∙ ap (λ b. expected_at tables before ++ cond b (expected tables v ∷ []) []) inner_is ∙ append-nil (expected_at tables before)));
         }
 
 -- before the first node

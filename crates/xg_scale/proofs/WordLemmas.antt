@@ -78,5 +78,6 @@ module _ (game : GameFile) (lowest : AreFractions (tables_of game)) where
   -- and there are as many
   pub answer_count : (r : Result GameWeights Refused) → Answers r (weigh game)
       → IfOk r (λ weights. length weights.leaves ≡ leaf_count (prefix game.tree))
-  answer_count (Ok weights) is = AllZip-long (IsWeightOf (tables_of game) weights.unit) (leaf_visits game.tree) weights.leaves (accepted weights is).1.leaves ∙ leaves_counted game.tree
+  answer_count (Ok weights) is = AllZip-long (IsWeightOf (tables_of game) weights.unit) (leaf_visits game.tree) weights.leaves (accepted weights is).1.leaves
+      ∙ leaves_counted game.tree
   answer_count (Err _) is = tt

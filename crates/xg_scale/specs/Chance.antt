@@ -7,7 +7,8 @@ use Rattle.def_tree.specs.Tree.{Forest}
 use Rattle.def_tree.specs.Rules.{set_count}
 use Rattle.def_game_paths.specs.Paths.{Visit, visits}
 use Rattle.def_game_scale.specs.Tables.{Tables, probabilities}
-use Rattle.def_game_scale.specs.Faults.{GameFault, ChanceNegative, NodeTest, adding_fault, found_by, is_negative, passing, sign_fault, sum_fault}
+use Rattle.def_game_scale.specs.Faults.{GameFault, ChanceNegative, NodeTest, adding_fault, found_by, is_negative}
+use Rattle.def_game_scale.specs.Faults.{passing, sign_fault, sum_fault}
 use Rattle.xg_scale.specs.declared.chance.SetTest.{SetTest}
 use Rattle.xg_scale.specs.declared.chance.SetTest.TheVariants.{Signs, Sums}
 

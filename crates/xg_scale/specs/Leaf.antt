@@ -34,7 +34,8 @@ judged_leaf number known unit numbers =
 
 -- the same of any node, where others have no fault
 abbrev pub judged_node : ℕ → Node → Option Fraction → ℕ → PathNumbers → Option GameFault
-judged_node number node known unit numbers = if is_leaf_kind node.kind then judged_leaf number known unit numbers else None
+judged_node number node known unit numbers = if is_leaf_kind node.kind then judged_leaf number known unit numbers
+    else None
 
 -- the sum that is known with the node
 abbrev pub known_with : Node → Option Fraction → PathNumbers → Option Fraction

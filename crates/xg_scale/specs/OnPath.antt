@@ -21,7 +21,15 @@ at_action node action = record { chance_set = node.chance_set; action = action; 
 
 -- what is around the whole tree
 abbrev pub empty_path : NodeOnPath
-empty_path = record { chance_set = None; action = 1; numbers = record { reach = certain; one = zero_fraction; two = zero_fraction } }
+empty_path = record {
+  chance_set = None;
+  action = 1;
+  numbers = record {
+    reach = certain;
+    one = zero_fraction;
+    two = zero_fraction;
+  };
+}
 
 -- a node is around, and its action leaves room for the next one
 abbrev pub HasNodeAround : List NodeOnPath → Type 0

@@ -16,9 +16,11 @@ abbrev pub others_after : List PathNumbers → List PathNumbers
 others_after [] = []
 others_after (next ∷ others) = others
 
--- the nodes of these steps, where the first has these numbers, and those behind a step with new ones have the next further ones
+-- the nodes of these steps, where the first has these numbers, and those behind a step with new ones have the next
+-- further ones
 abbrev pub nodes_around : List StepOnPath → PathNumbers → List PathNumbers → List NodeOnPath
 nodes_around [] numbers further = []
 nodes_around (step ∷ steps) numbers further =
     node_of_step step numbers
-    ∷ (if step.is_new then nodes_around steps (numbers_after numbers further) (others_after further) else nodes_around steps numbers further)
+    ∷ (if step.is_new then nodes_around steps (numbers_after numbers further) (others_after further) else nodes_around
+    steps numbers further)

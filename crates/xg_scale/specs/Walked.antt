@@ -1,5 +1,6 @@
 -- A walk that judges each node by the numbers of its path, and what it finds.
-use Rattle.std.specs.Prelude.{◌≡◌, ℕ, ◌-◌, ◌≤◌, Bool, ◌&&◌, if◌then◌else◌, [], ◌∷◌, ◌++◌, filter, length, map, List, Option, Some, None, unwrap_or}
+use Rattle.std.specs.Prelude.{◌≡◌, ℕ, ◌-◌, ◌≤◌, Bool, ◌&&◌, if◌then◌else◌, [], ◌∷◌, ◌++◌, filter, length, map, List}
+use Rattle.std.specs.Prelude.{Option, Some, None, unwrap_or}
 use Rattle.def_tree.specs.declared.Node.{Node}
 use Rattle.def_tree.specs.declared.Player.{Player}
 use Rattle.def_tree.specs.declared.Player.TheVariants.{One, Two}
@@ -8,7 +9,8 @@ use Rattle.def_fraction.specs.Fraction.{Fraction, fits, most, product_of, sum_of
 use Rattle.def_file.specs.Content.{GameFile}
 use Rattle.def_file.specs.Faults.{set_at}
 use Rattle.def_game_paths.specs.Paths.{Visit, visits}
-use Rattle.def_game_scale.specs.Tables.{PayoffPair, Tables, game_sum, paid_together, payoff_one, payoff_two, payoffs_of, probability, reach}
+use Rattle.def_game_scale.specs.Tables.{PayoffPair, Tables, game_sum, paid_together, payoff_one, payoff_two, payoffs_of}
+use Rattle.def_game_scale.specs.Tables.{probability, reach}
 use Rattle.def_game_scale.specs.Scale.{all_expected, game_unit}
 use Rattle.def_game_scale.specs.Faults.{GameFault, Scale, found_by, node_fault}
 use Rattle.def_game_numbers.specs.Numbers.{tables_of}
@@ -64,7 +66,8 @@ numbers_below tables parent node = record {
 -- where chance moves, its set has the next action
 abbrev pub MayCome : GameFile → NodeOnPath → Type 0
 MayCome game parent = (set : ℕ) → parent.chance_set ≡ Some set →
-    (1 ≤ set) × (set ≤ length game.sets.chance) × (1 ≤ parent.action) × (parent.action ≤ length (set_at game.sets.chance (set - 1)).actions)
+    (1 ≤ set) × (set ≤ length game.sets.chance) × (1 ≤ parent.action)
+    × (parent.action ≤ length (set_at game.sets.chance (set - 1)).actions)
 
 -- the node may be the next child of the innermost
 pub record MayComeNext (walk : PathWalk) (node : Node) : Type 0 where
@@ -80,7 +83,8 @@ numbers_at_next walk node = numbers_below (tables_of walk.game.now) walk.innermo
 -- what is wrong at it, under its number
 abbrev pub next_fault : PathWalk → ℕ → Node → Option GameFault
 next_fault walk k node =
-    if all_fit (numbers_at_next walk node) then judged_node k node walk.expected.sum walk.expected.unit (numbers_at_next walk node) else Some (Scale k)
+    if all_fit (numbers_at_next walk node) then judged_node k node walk.expected.sum walk.expected.unit
+    (numbers_at_next walk node) else Some (Scale k)
 
 -- it has no fault, and is the innermost
 pub record HasEntered (old : PathWalk) (k : ℕ) (node : Node) (new : PathWalk) : Type 0 where
@@ -88,7 +92,8 @@ pub record HasEntered (old : PathWalk) (k : ℕ) (node : Node) (new : PathWalk) 
   pub sum : new.expected.sum ≡ known_with node old.expected.sum (numbers_at_next old node)
   pub unit : new.expected.unit ≡ unit_with node old.expected.sum old.expected.unit (numbers_at_next old node)
   pub limit : new.expected.unit ≤ most
-  pub fractions : new.expected.fractions.items ≡ old.expected.fractions.items ++ with_expected node (numbers_at_next old node)
+  pub fractions : new.expected.fractions.items ≡ old.expected.fractions.items
+      ++ with_expected node (numbers_at_next old node)
   pub range : TakesIn node (numbers_at_next old node) old.expected.range new.expected.range
   pub innermost : new.innermost ≡ entered_node node (numbers_at_next old node)
   pub outer : new.outer ≡ old.innermost ∷ old.outer
@@ -103,13 +108,15 @@ MayEnter visitor k node = UnlessStopped visitor.refused (MayComeNext visitor.wal
 
 abbrev pub Enters : PathVisitor → ℕ → Node → PathVisitor → Type 0
 Enters old k node new =
-    (new.walk.game.now ≡ old.walk.game.now) × Steps old.refused new.refused (RefusesBy (next_fault old.walk k node)) (HasEntered old.walk k node new.walk)
+    (new.walk.game.now ≡ old.walk.game.now) × Steps old.refused new.refused (RefusesBy (next_fault old.walk k node))
+    (HasEntered old.walk k node new.walk)
 
 abbrev pub MayLeave : PathVisitor → ℕ → Type 0
 MayLeave visitor k = UnlessStopped visitor.refused (HasNodeAround visitor.walk.outer)
 
 abbrev pub Leaves : PathVisitor → ℕ → PathVisitor → Type 0
-Leaves old k new = (new.walk.game.now ≡ old.walk.game.now) × Steps old.refused new.refused (λ _. ⊥) (HasLeft old.walk new.walk)
+Leaves old k new = (new.walk.game.now ≡ old.walk.game.now)
+    × Steps old.refused new.refused (λ _. ⊥) (HasLeft old.walk new.walk)
 
 -- no node was entered yet
 pub record IsBefore (game : GameFile) (visitor : PathVisitor) : Type 0 where

@@ -36,4 +36,5 @@ pub record HasWeighed (tables : Tables) (tree : Forest) (unit k : ℕ) (weighed 
 
 -- a sum of this size, in the unit, has no fault at the first k nodes
 abbrev pub PassedWholeSum : Forest → ℕ → ℕ → Type 0
-PassedWholeSum tree size k = found_by (whole_sum_fault size) [] (visits tree) ≡ found_by (whole_sum_fault size) (take k (visits tree)) (drop k (visits tree))
+PassedWholeSum tree size k = found_by (whole_sum_fault size) [] (visits tree)
+    ≡ found_by (whole_sum_fault size) (take k (visits tree)) (drop k (visits tree))

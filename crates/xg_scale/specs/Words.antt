@@ -14,7 +14,8 @@ HasNoNumberFault game = PassNumbers (tables_of game) game.tree
 
 -- the fault is the first one of the game's numbers
 abbrev pub IsFirstNumberFault : GameFile → FileFault → Type 0
-IsFirstNumberFault game fault = (found : GameFault) × FirstNumberFault (tables_of game) game.tree found × (fault ≡ file_fault found)
+IsFirstNumberFault game fault = (found : GameFault) × FirstNumberFault (tables_of game) game.tree found
+    × (fault ≡ file_fault found)
 
 -- the sum's denominator, and that of each leaf's reach times payoff, divides the number
 abbrev pub IsCommonMultiple : GameFile → ℕ → Type 0

@@ -23,7 +23,8 @@ pub(crate) enum SetTest {
 /// Asks each chance set in the order of their first nodes.
 pub(crate) fn check_sets(game: &Game, test: SetTest) -> Result<(), FileFault>
     ensures ok { OnOk result (found_by (node_test_of test (tables_of game.now)) [] (visits game.now.tree) ≡ None) }
-    ensures err { IfErr result (IsFaultOf (found_by (node_test_of test (tables_of game.now)) [] (visits game.now.tree))) }
+    ensures err { IfErr result (IsFaultOf (found_by (node_test_of test (tables_of game.now)) []
+        (visits game.now.tree))) }
 {
     let tree = game.tree();
     let mut seen = 0;

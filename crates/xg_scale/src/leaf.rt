@@ -4,7 +4,8 @@ ghost use Rattle.def_fraction.specs.Divisors.{lcm};
 ghost use Rattle.def_fraction.specs.Fraction.{fits, most, product_of, sum_of};
 ghost use Rattle.def_game_scale.specs.Faults as faults;
 ghost use Rattle.xg_scale.specs.FaultOfFile.{IsFaultOf, RefusesBy};
-ghost use Rattle.xg_scale.specs.Leaf.{TakesIn, judged_leaf, judged_node, known_with, leaf_unit, sum_from_first, unit_with, with_expected};
+ghost use Rattle.xg_scale.specs.Leaf.{TakesIn, judged_leaf, judged_node, known_with, leaf_unit, sum_from_first};
+ghost use Rattle.xg_scale.specs.Leaf.{unit_with, with_expected};
 
 use crate::parts::{denominator, known};
 use crate::path::PathNumbers;

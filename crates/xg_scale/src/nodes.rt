@@ -1,4 +1,5 @@
-//! The walk over all nodes: the reach and the payoffs of each path, what leaves pay both players together, and the unit.
+//! The walk over all nodes: the reach and the payoffs of each path, what leaves pay both players together, and the
+//! unit.
 ghost use Rattle.std.specs.Prelude.{◌≡◌, ◌≤◌, [], length, IfErr, IfOk, IsTrue, OkIff, OnOk};
 ghost use Rattle.def_fraction.specs.Fraction.{fits, sum_of};
 ghost use Rattle.def_game_scale.specs.Faults.{found_by, node_fault};
@@ -7,7 +8,8 @@ ghost use Rattle.def_game_paths.specs.Paths.{visits};
 ghost use Rattle.def_game_scale.specs.Tables.{AreFractions, payoffs_of};
 ghost use Rattle.xg_scale.specs.FaultOfFile.{RefusesBy};
 ghost use Rattle.xg_scale.specs.OnPath.{HasNodeAround, chance_set_of, entered_node};
-ghost use Rattle.xg_scale.specs.Walked.{HasEntered, HasLeft, IsBefore, IsExpectedOf, MayCome, MayComeNext, all_fit, next_fault, numbers_below, paid_to, reach_below};
+ghost use Rattle.xg_scale.specs.Walked.{HasEntered, HasLeft, IsBefore, IsExpectedOf, MayCome, MayComeNext, all_fit};
+ghost use Rattle.xg_scale.specs.Walked.{next_fault, numbers_below, paid_to, reach_below};
 
 use crate::leaf::Expected;
 use crate::outer::OuterPath;

@@ -1,5 +1,6 @@
 //! The weights of a game's leaves.
-ghost use Rattle.std.specs.Prelude.{◌≡◌, ◌≤◌, ◌<◌, ◌+◌, ◌^◌, [], None, map, nat_le, sum, unsigned_abs, unwrap_or, IfErr, IfOk, OnErr, OnOk};
+ghost use Rattle.std.specs.Prelude.{◌≡◌, ◌≤◌, ◌<◌, ◌+◌, ◌^◌, [], None, map, nat_le, sum, unsigned_abs, unwrap_or};
+ghost use Rattle.std.specs.Prelude.{IfErr, IfOk, OnErr, OnOk};
 ghost use Rattle.def_fraction.specs.Fraction.{most, signed, zero_fraction};
 ghost use Rattle.def_game_scale.specs.Faults.{found_by, mass_fault, whole_sum_fault};
 ghost use Rattle.def_game_numbers.specs.Numbers.{tables_of, weights_of_game};
@@ -21,11 +22,11 @@ use xg_frac::{Frac, OverLimit, zero};
 use xg_game::{FileFault, Game, Refused};
 use xg_tree::is_leaf;
 
-/// What each leaf of a game pays both players together, the unit of the game, the weights of its leaves in prefix order,
-/// and their mass, which is the sum of their sizes.
+/// What each leaf of a game pays both players together, the unit of the game, the weights of its leaves in prefix
+/// order, and their mass, which is the sum of their sizes.
 ///
-/// A weight is the unit times reach times player one's payoff. The unit is the least that makes all weights whole, and the
-/// sum times the unit too.
+/// A weight is the unit times reach times player one's payoff. The unit is the least that makes all weights whole, and
+/// the sum times the unit too.
 #[derive(Drop)]
 pub struct Weights {
     sum: Frac,

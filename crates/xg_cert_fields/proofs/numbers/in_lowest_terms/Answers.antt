@@ -19,4 +19,5 @@ returns c =
     let exact : c.ratio-fraction.result ≡ fraction_of c.args.num (unsigned_abs c.args.den) =
     c.ratio-fraction.ensures ∙ ap (λ n. fraction_of n (unsigned_abs (to_z w128 (of_z w128 c.args.den)))) (to_z-of_z w128 c.args.num c.ranges.num)
     ∙ ap (λ d. fraction_of c.args.num (unsigned_abs d)) (to_z-of_z w128 c.args.den c.ranges.den) in
-    lost_in_lowest_terms c.args.num c.args.den c.ratio-fraction.result exact c.requires.from_one (λ same. c.if-den.false (ap (of_z w128) (c.den.ensures.value ∙ same)))
+    lost_in_lowest_terms c.args.num c.args.den c.ratio-fraction.result exact c.requires.from_one
+    (λ same. c.if-den.false (ap (of_z w128) (c.den.ensures.value ∙ same)))

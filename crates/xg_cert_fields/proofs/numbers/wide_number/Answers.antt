@@ -16,5 +16,6 @@ loop-digit-preserved c =
     record {
       within = omega arith;
       digits = next.more;
-      number = capped-digit c.loop-digit.number c.min-number.result digit (drop (i + 1) bytes) exact ∙ ap (capped c.loop-digit.number) (sym next.parts) ∙ c.loop-digit.invariant.number;
+      number = capped-digit c.loop-digit.number c.min-number.result digit (drop (i + 1) bytes) exact ∙ ap (capped c.loop-digit.number) (sym next.parts)
+          ∙ c.loop-digit.invariant.number;
     }

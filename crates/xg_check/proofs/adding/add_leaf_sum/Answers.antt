@@ -13,7 +13,8 @@ sum_on-sum-requires c =
     let leaves = c.args.form.now.leaves in
     let s = c.args.sequence in
     subst (IsNumberWithin (length c.args.sums.now)) (sym c.first_leaf.ensures)
-    (there_behind c.args.player s 0 leaves c.args.against.now c.args.sums.now (first_leaf c.args.player s leaves) c.requires.sum_count (first_behind c.args.player s leaves c.args.against.now))
+    (there_behind c.args.player s 0 leaves c.args.against.now c.args.sums.now (first_leaf c.args.player s leaves) c.requires.sum_count
+    (first_behind c.args.player s leaves c.args.against.now))
 
 pub returns-clause-added : goal.returns-clause-added
 returns-clause-added c =

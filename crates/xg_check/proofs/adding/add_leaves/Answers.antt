@@ -11,10 +11,12 @@ loop-s-preserved c =
     let next = c.add_leaf_sum.new.rows in
     record {
       below = row_more c.loop-s.s before rows next sums c.loop-s.invariant.below c.add_leaf_sum.ensures.added;
-      small = row_stays_small c.loop-s.s before rows next sums (2 ^ 119) c.requires.none c.loop-s.invariant.below c.loop-s.invariant.small c.add_leaf_sum.ensures.added c.add_leaf_sum.ensures.small;
+      small = row_stays_small c.loop-s.s before rows next sums (2 ^ 119) c.requires.none c.loop-s.invariant.below c.loop-s.invariant.small
+          c.add_leaf_sum.ensures.added c.add_leaf_sum.ensures.small;
       same = c.add_leaf_sum.ensures.same_length ∙ c.loop-s.invariant.same;
     }
 
 pub returns-clause-sums : goal.returns-clause-sums
 returns-clause-sums c =
-    all_rows c.args.form.now c.args.player c.args.against.now c.loop-s.s c.args.rows.now c.loop-s.rows c.facts.ensures.sequences (omega (arith, c.loop-s-test.false, c.sequence_count-s-end.ensures.count)) c.loop-s.invariant.below
+    all_rows c.args.form.now c.args.player c.args.against.now c.loop-s.s c.args.rows.now c.loop-s.rows c.facts.ensures.sequences
+    (omega (arith, c.loop-s-test.false, c.sequence_count-s-end.ensures.count)) c.loop-s.invariant.below

@@ -22,13 +22,17 @@ reply_fault-requires-clause-small c =
     let cert = c.args.cert.now.certificate in
     let b = bounds_in cert in
     let fits = bounds_fit cert c.facts.ensures.within.certificate (c.facts.ensures.bounds c.requires.sets.asked) in
-    subst (λ (vs : List ℤ). All (λ v. unsigned_abs v ≤ 2 ^ 100) vs) (sym c.values.ensures) (values_small (reply_in c.args.player b).sets (reply_fits c.args.player cert.head b fits).values)
+    subst (λ (vs : List ℤ). All (λ v. unsigned_abs v ≤ 2 ^ 100) vs) (sym c.values.ensures)
+    (values_small (reply_in c.args.player b).sets (reply_fits c.args.player cert.head b fits).values)
 
 pub returns : goal.returns
 returns c =
     let b = bounds_in c.args.cert.now.certificate in
     let against = c.numbers-against.ensures ∙ ap (λ (p : Player). printed_numbers (plan_in p b)) c.opponent.ensures in
     if_ok_same c.reply_fault.result _ _
-    (same_tests c.args.player c.form.result.now c.args.numbers.now.form c.numbers-against.result.now (printed_numbers (plan_in (opponent c.args.player) b)) (reply_in c.args.player b) c.end_of-end.result.total c.end_of-end.result.traced _ c.end_of-end.result.bound _ (unsigned_abs c.end_of-end.result.scale) _ c.values.result.now c.choices.result.now
-    c.form.ensures against c.end_of-end.ensures.total c.end_of-end.ensures.traced c.end_of-end.ensures.bound c.end_of-end.ensures.scale c.values.ensures c.choices.ensures)
+    (same_tests c.args.player c.form.result.now c.args.numbers.now.form c.numbers-against.result.now (printed_numbers (plan_in (opponent c.args.player) b))
+    (reply_in c.args.player b) c.end_of-end.result.total c.end_of-end.result.traced _ c.end_of-end.result.bound _ (unsigned_abs c.end_of-end.result.scale) _
+    c.values.result.now c.choices.result.now
+    c.form.ensures against c.end_of-end.ensures.total c.end_of-end.ensures.traced c.end_of-end.ensures.bound c.end_of-end.ensures.scale c.values.ensures
+    c.choices.ensures)
     c.reply_fault.ensures

@@ -13,7 +13,8 @@ returns-then-is_some c =
     let scale = c.args.cert.now.certificate.head.scale in
     let b = bounds_in c.args.cert.now.certificate in
     let first = first_trace_line_of c.args.cert.now.version in
-    front_stops c.fault_of_plans-fault.result (tests_of_plans game scale b) (tests_of_replies game b ++ trace_tests first b.trace) c.fault_of_plans-fault.ensures.exact (sym c.is_some.ensures ∙ c.if-is_some.true)
+    front_stops c.fault_of_plans-fault.result (tests_of_plans game scale b) (tests_of_replies game b ++ trace_tests first b.trace)
+    c.fault_of_plans-fault.ensures.exact (sym c.is_some.ensures ∙ c.if-is_some.true)
     ∙ ap first_failing (bounds_parts game first scale b)
 
 pub returns-then-is_some-2 : goal.returns-then-is_some-2
@@ -23,7 +24,8 @@ returns-then-is_some-2 c =
     let b = bounds_in c.args.cert.now.certificate in
     let first = first_trace_line_of c.args.cert.now.version in
     front_stops c.in_ok-fault.fault (tests_of_replies game b) (trace_tests first b.trace) c.in_ok-fault.ensures (sym c.is_some-2.ensures ∙ c.if-is_some-2.true)
-    ∙ rest_decides c.fault_of_plans-fault.result (tests_of_plans game scale b) (tests_of_replies game b ++ trace_tests first b.trace) c.fault_of_plans-fault.ensures.exact (sym c.is_some.ensures ∙ c.if-is_some.false)
+    ∙ rest_decides c.fault_of_plans-fault.result (tests_of_plans game scale b) (tests_of_replies game b ++ trace_tests first b.trace)
+    c.fault_of_plans-fault.ensures.exact (sym c.is_some.ensures ∙ c.if-is_some.false)
     ∙ ap first_failing (bounds_parts game first scale b)
 
 pub returns : goal.returns
@@ -33,6 +35,8 @@ returns c =
     let b = bounds_in c.args.cert.now.certificate in
     let first = first_trace_line_of c.args.cert.now.version in
     c.fault_of_trace.ensures
-    ∙ rest_decides c.in_ok-fault.fault (tests_of_replies game b) (trace_tests first b.trace) c.in_ok-fault.ensures (sym c.is_some-2.ensures ∙ c.if-is_some-2.false)
-    ∙ rest_decides c.fault_of_plans-fault.result (tests_of_plans game scale b) (tests_of_replies game b ++ trace_tests first b.trace) c.fault_of_plans-fault.ensures.exact (sym c.is_some.ensures ∙ c.if-is_some.false)
+    ∙ rest_decides c.in_ok-fault.fault (tests_of_replies game b) (trace_tests first b.trace) c.in_ok-fault.ensures
+    (sym c.is_some-2.ensures ∙ c.if-is_some-2.false)
+    ∙ rest_decides c.fault_of_plans-fault.result (tests_of_plans game scale b) (tests_of_replies game b ++ trace_tests first b.trace)
+    c.fault_of_plans-fault.ensures.exact (sym c.is_some.ensures ∙ c.if-is_some.false)
     ∙ ap first_failing (bounds_parts game first scale b)

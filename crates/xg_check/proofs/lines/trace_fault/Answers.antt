@@ -13,11 +13,13 @@ is_wider-requires-clause-earlier c =
 
 pub returns-then-is_wider : goal.returns-then-is_wider
 returns-then-is_wider c =
-    sym (c.loop-k.invariant ∙ line_widens c.args.first c.args.lines.now c.loop-k.k no_line no_line c.loop-k.auto.k c.loop-k-test.true (sym c.is_wider.ensures ∙ c.if-is_wider.true))
+    sym (c.loop-k.invariant ∙ line_widens c.args.first c.args.lines.now c.loop-k.k no_line no_line c.loop-k.auto.k c.loop-k-test.true
+    (sym c.is_wider.ensures ∙ c.if-is_wider.true))
 
 pub loop-k-preserved : goal.loop-k-preserved
 loop-k-preserved c =
-    c.loop-k.invariant ∙ line_holds c.args.first c.args.lines.now c.loop-k.k no_line no_line c.loop-k.auto.k c.loop-k-test.true (sym c.is_wider.ensures ∙ c.if-is_wider.false)
+    c.loop-k.invariant ∙ line_holds c.args.first c.args.lines.now c.loop-k.k no_line no_line c.loop-k.auto.k c.loop-k-test.true
+    (sym c.is_wider.ensures ∙ c.if-is_wider.false)
 
 pub returns : goal.returns
 returns c = sym (c.loop-k.invariant ∙ no_line_left c.args.first c.args.lines.now c.loop-k.k c.loop-k.auto.k c.loop-k-test.false)

@@ -15,9 +15,12 @@ returns-then-is_some c =
     let cs = c.args.choices.now in
     let e = c.args.end in
     let rows = c.add_values.new.rows in
-    let whole : row rows ≡ worth sums (placed sets) vs = whole_worth c.args.rows.now c.add_leaves.new.rows rows _ _ c.requires.none c.add_leaves.ensures.sums c.add_values.ensures.sums in
+    let whole : row rows ≡ worth sums (placed sets) vs = whole_worth c.args.rows.now c.add_leaves.new.rows rows _ _ c.requires.none c.add_leaves.ensures.sums
+    c.add_values.ensures.sums in
     let equal : length vs ≡ length cs = omega (arith, c.requires.values, c.requires.choices) in
-    front_stops c.first_set_fault-fault.result (sets_part player (row rows) sets vs cs) (total_part player (row rows) e.total e.traced e.bound (unsigned_abs e.scale)) c.first_set_fault-fault.ensures (sym c.is_some.ensures ∙ c.if-is_some.true)
+    front_stops c.first_set_fault-fault.result (sets_part player (row rows) sets vs cs)
+    (total_part player (row rows) e.total e.traced e.bound (unsigned_abs e.scale)) c.first_set_fault-fault.ensures
+    (sym c.is_some.ensures ∙ c.if-is_some.true)
     ∙ sym (by_rows player sums sets vs cs e.total e.traced e.bound (unsigned_abs e.scale) rows equal whole)
 
 pub returns : goal.returns
@@ -29,8 +32,11 @@ returns c =
     let cs = c.args.choices.now in
     let e = c.args.end in
     let rows = c.add_values.new.rows in
-    let whole : row rows ≡ worth sums (placed sets) vs = whole_worth c.args.rows.now c.add_leaves.new.rows rows _ _ c.requires.none c.add_leaves.ensures.sums c.add_values.ensures.sums in
+    let whole : row rows ≡ worth sums (placed sets) vs = whole_worth c.args.rows.now c.add_leaves.new.rows rows _ _ c.requires.none c.add_leaves.ensures.sums
+    c.add_values.ensures.sums in
     let equal : length vs ≡ length cs = omega (arith, c.requires.values, c.requires.choices) in
     c.total_fault.ensures ∙ sym (one_test _)
-    ∙ sym (front_passes c.first_set_fault-fault.result (sets_part player (row rows) sets vs cs) (total_part player (row rows) e.total e.traced e.bound (unsigned_abs e.scale)) c.first_set_fault-fault.ensures (sym c.is_some.ensures ∙ c.if-is_some.false))
+    ∙ sym (front_passes c.first_set_fault-fault.result (sets_part player (row rows) sets vs cs)
+    (total_part player (row rows) e.total e.traced e.bound (unsigned_abs e.scale)) c.first_set_fault-fault.ensures
+    (sym c.is_some.ensures ∙ c.if-is_some.false))
     ∙ sym (by_rows player sums sets vs cs e.total e.traced e.bound (unsigned_abs e.scale) rows equal whole)

@@ -22,7 +22,9 @@ returns-then-is_some c =
     let long = length-placed 1 (player_sets c.args.form.now c.args.player) in
     let equal : length vs ≡ length cs = omega (arith, c.requires.values, c.requires.choices) in
     let below : k < length vs = omega (arith, c.loop-k-test.true, c.set_count-k-end.ensures, c.requires.values) in
-    set_stops c.args.player c.args.rows.now hs (set_replies vs cs) k h r c.set_fault-fault.result (omega (arith, below, long, c.requires.values)) (omega (arith, below, length-set_replies vs cs (sym equal))) (there_is hs k h h c.place_of-h.ensures.place) (reply_there vs cs k r equal below ∙ sym c.reply_at-reply.ensures) c.set_fault-fault.ensures (sym c.is_some.ensures ∙ c.if-is_some.true)
+    set_stops c.args.player c.args.rows.now hs (set_replies vs cs) k h r c.set_fault-fault.result (omega (arith, below, long, c.requires.values))
+    (omega (arith, below, length-set_replies vs cs (sym equal))) (there_is hs k h h c.place_of-h.ensures.place)
+    (reply_there vs cs k r equal below ∙ sym c.reply_at-reply.ensures) c.set_fault-fault.ensures (sym c.is_some.ensures ∙ c.if-is_some.true)
     ∙ sym c.loop-k.invariant
 
 pub loop-k-preserved : goal.loop-k-preserved
@@ -37,7 +39,9 @@ loop-k-preserved c =
     let equal : length vs ≡ length cs = omega (arith, c.requires.values, c.requires.choices) in
     let below : k < length vs = omega (arith, c.loop-k-test.true, c.set_count-k-end.ensures, c.requires.values) in
     c.loop-k.invariant
-    ∙ set_passes c.args.player c.args.rows.now hs (set_replies vs cs) k h r c.set_fault-fault.result (omega (arith, below, long, c.requires.values)) (omega (arith, below, length-set_replies vs cs (sym equal))) (there_is hs k h h c.place_of-h.ensures.place) (reply_there vs cs k r equal below ∙ sym c.reply_at-reply.ensures) c.set_fault-fault.ensures (sym c.is_some.ensures ∙ c.if-is_some.false)
+    ∙ set_passes c.args.player c.args.rows.now hs (set_replies vs cs) k h r c.set_fault-fault.result (omega (arith, below, long, c.requires.values))
+    (omega (arith, below, length-set_replies vs cs (sym equal))) (there_is hs k h h c.place_of-h.ensures.place)
+    (reply_there vs cs k r equal below ∙ sym c.reply_at-reply.ensures) c.set_fault-fault.ensures (sym c.is_some.ensures ∙ c.if-is_some.false)
 
 pub returns : goal.returns
 returns c =
@@ -45,4 +49,6 @@ returns c =
     let vs = c.args.values.now in
     let cs = c.args.choices.now in
     let equal : length vs ≡ length cs = omega (arith, c.requires.values, c.requires.choices) in
-    sym (c.loop-k.invariant ∙ ap first_failing (no_set c.args.player c.args.rows.now (placed sets) (set_replies vs cs) c.loop-k.k (omega (arith, c.loop-k-test.false, c.set_count-k-end.ensures, length-placed 1 sets)) (omega (arith, c.loop-k-test.false, c.set_count-k-end.ensures, c.requires.values, length-set_replies vs cs (sym equal)))))
+    sym (c.loop-k.invariant ∙ ap first_failing (no_set c.args.player c.args.rows.now (placed sets) (set_replies vs cs) c.loop-k.k
+    (omega (arith, c.loop-k-test.false, c.set_count-k-end.ensures, length-placed 1 sets))
+    (omega (arith, c.loop-k-test.false, c.set_count-k-end.ensures, c.requires.values, length-set_replies vs cs (sym equal)))))

@@ -11,7 +11,8 @@ returns-in_err-put_rounds-clause-text g c =
     let rounds : List ℕ = named (codes "xg_close: ") (decimal progress.rounds) in
     let widths : List ℕ = widths_text (decimal_of progress.width) (asked_text progress.asked) in
     let bounds : List ℕ = bounds_text progress.low progress.high in
-    let fact = prefix_first (g.O.Sink.written c.args.out.now) (g.O.Sink.written c.put_rounds.new.out) rounds (widths ++ bounds) c.in_err-put_rounds.ensures.text in
+    let fact = prefix_first (g.O.Sink.written c.args.out.now) (g.O.Sink.written c.put_rounds.new.out) rounds (widths ++ bounds)
+    c.in_err-put_rounds.ensures.text in
     search (rules, fact)
 
 pub returns-in_err-put_widths-clause-text : goal.returns-in_err-put_widths-clause-text

@@ -11,14 +11,16 @@ add_regret-requires-then-place-eq2-clause-room g c =
     let value_is : to_z w128 (of_z w128 c.args.value) ≡ c.args.value = to_z-of_z w128 c.args.value c.ranges.value in
     let more : ℤ = amount_of (map g.W.Worth.amount c.args.worths.now) next -ℤ c.args.value in
     let apart : next ≢ c.args.place.first = omega arith in
-    rw value_is (subst (λ r. FitsSigned g.R.Worth.width (r +ℤ more)) (sym (c.add_regret.ensures.others next apart)) (c.requires.room next (omega arith) (omega arith)))
+    rw value_is (subst (λ r. FitsSigned g.R.Worth.width (r +ℤ more)) (sym (c.add_regret.ensures.others next apart))
+    (c.requires.room next (omega arith) (omega arith)))
 
 pub add_regret-requires-in-loop-i-clause-room : goal.add_regret-requires-in-loop-i-clause-room
 add_regret-requires-in-loop-i-clause-room g c =
     let next : ℕ = c.args.place.first + c.loop-i.i in
     let value_is : to_z w128 (of_z w128 c.args.value) ≡ c.args.value = to_z-of_z w128 c.args.value c.ranges.value in
     let more : ℤ = amount_of (map g.W.Worth.amount c.args.worths.now) next -ℤ c.args.value in
-    rw value_is (subst (λ r. FitsSigned g.R.Worth.width (r +ℤ more)) (sym (c.loop-i.invariant.later next (omega arith))) (c.requires.room next (omega arith) (omega arith)))
+    rw value_is (subst (λ r. FitsSigned g.R.Worth.width (r +ℤ more)) (sym (c.loop-i.invariant.later next (omega arith)))
+    (c.requires.room next (omega arith) (omega arith)))
 
 pub returns-then-place-eq2 : goal.returns-then-place-eq2
 returns-then-place-eq2 g c =
@@ -31,7 +33,8 @@ returns-then-place-eq2 g c =
     let here = rw value_is at c.add_regret.ensures.here in
     let here_too = rw value_is at c.add_regret-then-place-eq2.ensures.here in
     let one : GrewFirst first 1 worths c.args.value before middle =
-    grew_more first 0 first worths c.args.value before before middle (omega arith) (grew_none first worths c.args.value before) here c.add_regret.ensures.others in
+    grew_more first 0 first worths c.args.value before before middle (omega arith) (grew_none first worths c.args.value before) here
+    c.add_regret.ensures.others in
     let two : GrewFirst first 2 worths c.args.value before after =
     grew_more first 1 (first + 1) worths c.args.value before middle after (omega arith) one here_too c.add_regret-then-place-eq2.ensures.others in
     record {
@@ -48,7 +51,8 @@ loop-i-init g c =
 pub loop-i-preserved : goal.loop-i-preserved
 loop-i-preserved g c =
     let first = c.args.place.first in
-    grew_more first c.loop-i.i (first + c.loop-i.i) (map g.W.Worth.amount c.args.worths.now) (to_z w128 (of_z w128 c.args.value)) (map g.R.Worth.amount c.args.regrets.now) (map g.R.Worth.amount c.loop-i.regrets) (map g.R.Worth.amount c.add_regret-in-loop-i.new.regrets)
+    grew_more first c.loop-i.i (first + c.loop-i.i) (map g.W.Worth.amount c.args.worths.now) (to_z w128 (of_z w128 c.args.value))
+    (map g.R.Worth.amount c.args.regrets.now) (map g.R.Worth.amount c.loop-i.regrets) (map g.R.Worth.amount c.add_regret-in-loop-i.new.regrets)
     (omega arith) c.loop-i.invariant c.add_regret-in-loop-i.ensures.here c.add_regret-in-loop-i.ensures.others
 
 pub returns : goal.returns

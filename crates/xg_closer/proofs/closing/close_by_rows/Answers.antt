@@ -24,20 +24,29 @@ invariant_of-regrets g c =
     let small : List ℤ = c.close_rows-most.new.small_regrets in
     let wide : List ℤ = c.close_rows-most.new.regrets in
     let after_is : kept_regrets c.close_rows-most.result small wide ≡ regrets_after (own_amount player rows) c.args.play.now sets before =
-    c.close_rows-most.ensures.regrets ∙ ap (λ ps. regrets_after (own_amount player rows) ps sets (kept_regrets most c.deref_mut-3.result.now c.deref_mut-4.result.now)) c.units.ensures ∙ ap (regrets_after (own_amount player rows) c.args.play.now sets) before_is in
-    let small_written = written small c.regrets.inside.small_regrets.items c.regrets.inside.small_regrets.len (omega (arith, c.close_rows-most.ensures.small_count, c.deref_mut-3.ensures.len)) in
-    let wide_written = written wide c.regrets.inside.regrets.items c.regrets.inside.regrets.len (omega (arith, c.close_rows-most.ensures.count, c.deref_mut-4.ensures.len)) in
+    c.close_rows-most.ensures.regrets ∙ ap (λ ps. regrets_after (own_amount player rows) ps sets
+    (kept_regrets most c.deref_mut-3.result.now c.deref_mut-4.result.now)) c.units.ensures
+    ∙ ap (regrets_after (own_amount player rows) c.args.play.now sets) before_is in
+    let small_written = written small c.regrets.inside.small_regrets.items c.regrets.inside.small_regrets.len
+    (omega (arith, c.close_rows-most.ensures.small_count, c.deref_mut-3.ensures.len)) in
+    let wide_written = written wide c.regrets.inside.regrets.items c.regrets.inside.regrets.len
+    (omega (arith, c.close_rows-most.ensures.count, c.deref_mut-4.ensures.len)) in
     let worths : List ℤ = c.close_rows-most.new.worths in
-    let worths_written = written worths c.regrets.inside.worths.items c.regrets.inside.worths.len (omega (arith, c.close_rows-most.ensures.worths_count, c.deref_mut-2.ensures.len)) in
+    let worths_written = written worths c.regrets.inside.worths.items c.regrets.inside.worths.len
+    (omega (arith, c.close_rows-most.ensures.worths_count, c.deref_mut-2.ensures.len)) in
     let small_worths : List ℤ = c.close_rows-most.new.small_worths in
-    let small_worths_written = written small_worths c.regrets.inside.small_worths.items c.regrets.inside.small_worths.len (omega (arith, c.close_rows-most.ensures.small_worths_count, c.deref_mut.ensures.len)) in
+    let small_worths_written = written small_worths c.regrets.inside.small_worths.items c.regrets.inside.small_worths.len
+    (omega (arith, c.close_rows-most.ensures.small_worths_count, c.deref_mut.ensures.len)) in
     let closed : c.regrets.inside.rounds ≡ c.args.regrets.now.closed = ap (λ (r : RegretsSoFar). r.closed) c.regrets.view_is in
     let few : c.regrets.inside.rounds < most_rounds = omega (arith, closed, c.requires.few_rounds) in
     let as_sets : length c.regrets.inside.regrets.items ≡ sequence_count sets =
-    sym (length-kept most c.regrets.inside.small_regrets.items c.regrets.inside.regrets.items c.regrets.invariant.small_count) ∙ ap (λ (r : RegretsSoFar). length r.of_sequences) c.regrets.view_is ∙ c.requires.as_regrets in
-    let sizes = subst (λ xs. (s : ℕ) → unsigned_abs (regret_of xs s) ≤ c.regrets.inside.rounds * 2 ^ 82) (ap (λ (r : RegretsSoFar). r.of_sequences) c.regrets.view_is) c.regrets.invariant.sizes in
+    sym (length-kept most c.regrets.inside.small_regrets.items c.regrets.inside.regrets.items c.regrets.invariant.small_count)
+    ∙ ap (λ (r : RegretsSoFar). length r.of_sequences) c.regrets.view_is ∙ c.requires.as_regrets in
+    let sizes = subst (λ xs. (s : ℕ) → unsigned_abs (regret_of xs s) ≤ c.regrets.inside.rounds * 2 ^ 82)
+    (ap (λ (r : RegretsSoFar). r.of_sequences) c.regrets.view_is) c.regrets.invariant.sizes in
     let kept : KeepsRegrets c.close_rows-most.result small wide worths small_worths (c.regrets.inside.rounds + 1) =
-    keeps_regrets player rows sets (length-map c.args.rows.now g.A.Worth.amount ∙ c.requires.as_rows) c.requires.small_rows c.args.play.now before c.close_rows-most.result small wide worths small_worths c.regrets.inside.rounds order c.requires.all_units few sizes after_is
+    keeps_regrets player rows sets (length-map c.args.rows.now g.A.Worth.amount ∙ c.requires.as_rows) c.requires.small_rows c.args.play.now before
+    c.close_rows-most.result small wide worths small_worths c.regrets.inside.rounds order c.requires.all_units few sizes after_is
     (c.close_rows-most.ensures.worths_count ∙ ap (length {A = ℤ}) c.deref_mut-2.ensures.value ∙ c.regrets.invariant.room ∙ as_sets)
     (c.close_rows-most.ensures.small_worths_count ∙ ap (length {A = ℤ}) c.deref_mut.ensures.value ∙ c.regrets.invariant.small_room ∙ as_sets)
     (c.close_rows-most.ensures.small_count ∙ ap (length {A = ℤ}) c.deref_mut-3.ensures.value ∙ c.regrets.invariant.small_count ∙ as_sets)
@@ -57,9 +66,13 @@ returns-clause-regrets g c =
     let small : List ℤ = c.close_rows-most.new.small_regrets in
     let wide : List ℤ = c.close_rows-most.new.regrets in
     let after_is : kept_regrets c.close_rows-most.result small wide ≡ regrets_after (own_amount player rows) c.args.play.now sets before =
-    c.close_rows-most.ensures.regrets ∙ ap (λ ps. regrets_after (own_amount player rows) ps sets (kept_regrets most c.deref_mut-3.result.now c.deref_mut-4.result.now)) c.units.ensures ∙ ap (regrets_after (own_amount player rows) c.args.play.now sets) before_is in
-    let small_written = written small c.regrets.inside.small_regrets.items c.regrets.inside.small_regrets.len (omega (arith, c.close_rows-most.ensures.small_count, c.deref_mut-3.ensures.len)) in
-    let wide_written = written wide c.regrets.inside.regrets.items c.regrets.inside.regrets.len (omega (arith, c.close_rows-most.ensures.count, c.deref_mut-4.ensures.len)) in
+    c.close_rows-most.ensures.regrets ∙ ap (λ ps. regrets_after (own_amount player rows) ps sets
+    (kept_regrets most c.deref_mut-3.result.now c.deref_mut-4.result.now)) c.units.ensures
+    ∙ ap (regrets_after (own_amount player rows) c.args.play.now sets) before_is in
+    let small_written = written small c.regrets.inside.small_regrets.items c.regrets.inside.small_regrets.len
+    (omega (arith, c.close_rows-most.ensures.small_count, c.deref_mut-3.ensures.len)) in
+    let wide_written = written wide c.regrets.inside.regrets.items c.regrets.inside.regrets.len
+    (omega (arith, c.close_rows-most.ensures.count, c.deref_mut-4.ensures.len)) in
     rw (small_written, wide_written) after_is
 
 pub returns-clause-equations : goal.returns-clause-equations
@@ -75,9 +88,13 @@ returns-clause-equations g c =
     let small : List ℤ = c.close_rows-most.new.small_regrets in
     let wide : List ℤ = c.close_rows-most.new.regrets in
     let after_is : kept_regrets c.close_rows-most.result small wide ≡ regrets_after (own_amount player rows) c.args.play.now sets before =
-    c.close_rows-most.ensures.regrets ∙ ap (λ ps. regrets_after (own_amount player rows) ps sets (kept_regrets most c.deref_mut-3.result.now c.deref_mut-4.result.now)) c.units.ensures ∙ ap (regrets_after (own_amount player rows) c.args.play.now sets) before_is in
-    let small_written = written small c.regrets.inside.small_regrets.items c.regrets.inside.small_regrets.len (omega (arith, c.close_rows-most.ensures.small_count, c.deref_mut-3.ensures.len)) in
-    let wide_written = written wide c.regrets.inside.regrets.items c.regrets.inside.regrets.len (omega (arith, c.close_rows-most.ensures.count, c.deref_mut-4.ensures.len)) in
+    c.close_rows-most.ensures.regrets ∙ ap (λ ps. regrets_after (own_amount player rows) ps sets
+    (kept_regrets most c.deref_mut-3.result.now c.deref_mut-4.result.now)) c.units.ensures
+    ∙ ap (regrets_after (own_amount player rows) c.args.play.now sets) before_is in
+    let small_written = written small c.regrets.inside.small_regrets.items c.regrets.inside.small_regrets.len
+    (omega (arith, c.close_rows-most.ensures.small_count, c.deref_mut-3.ensures.len)) in
+    let wide_written = written wide c.regrets.inside.regrets.items c.regrets.inside.regrets.len
+    (omega (arith, c.close_rows-most.ensures.count, c.deref_mut-4.ensures.len)) in
     (rounds_are_computed (own_amount player rows) c.args.play.now sets before _ order).1 (rw (small_written, wide_written) after_is)
 
 pub returns-clause-count : goal.returns-clause-count
@@ -93,7 +110,12 @@ returns-clause-count g c =
     let small : List ℤ = c.close_rows-most.new.small_regrets in
     let wide : List ℤ = c.close_rows-most.new.regrets in
     let after_is : kept_regrets c.close_rows-most.result small wide ≡ regrets_after (own_amount player rows) c.args.play.now sets before =
-    c.close_rows-most.ensures.regrets ∙ ap (λ ps. regrets_after (own_amount player rows) ps sets (kept_regrets most c.deref_mut-3.result.now c.deref_mut-4.result.now)) c.units.ensures ∙ ap (regrets_after (own_amount player rows) c.args.play.now sets) before_is in
-    let small_written = written small c.regrets.inside.small_regrets.items c.regrets.inside.small_regrets.len (omega (arith, c.close_rows-most.ensures.small_count, c.deref_mut-3.ensures.len)) in
-    let wide_written = written wide c.regrets.inside.regrets.items c.regrets.inside.regrets.len (omega (arith, c.close_rows-most.ensures.count, c.deref_mut-4.ensures.len)) in
-    rw (small_written, wide_written) (ap (length {A = ℤ}) after_is ∙ regrets_count (own_amount player rows) c.args.play.now sets before order ∙ sym c.requires.as_regrets)
+    c.close_rows-most.ensures.regrets ∙ ap (λ ps. regrets_after (own_amount player rows) ps sets
+    (kept_regrets most c.deref_mut-3.result.now c.deref_mut-4.result.now)) c.units.ensures
+    ∙ ap (regrets_after (own_amount player rows) c.args.play.now sets) before_is in
+    let small_written = written small c.regrets.inside.small_regrets.items c.regrets.inside.small_regrets.len
+    (omega (arith, c.close_rows-most.ensures.small_count, c.deref_mut-3.ensures.len)) in
+    let wide_written = written wide c.regrets.inside.regrets.items c.regrets.inside.regrets.len
+    (omega (arith, c.close_rows-most.ensures.count, c.deref_mut-4.ensures.len)) in
+    rw (small_written, wide_written) (ap (length {A = ℤ}) after_is ∙ regrets_count (own_amount player rows) c.args.play.now sets before order
+    ∙ sym c.requires.as_regrets)

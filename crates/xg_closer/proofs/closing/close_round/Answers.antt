@@ -18,5 +18,6 @@ returns-clause-regrets c =
 
 pub returns-clause-equations : goal.returns-clause-equations
 returns-clause-equations c =
-    subst (λ rows. IsRound (own_amount c.args.player rows) c.args.play.now (player_sets c.args.form.now c.args.player) c.args.regrets.now.of_sequences c.close_by_rows.new.regrets.of_sequences)
+    subst (λ rows. IsRound (own_amount c.args.player rows) c.args.play.now (player_sets c.args.form.now c.args.player) c.args.regrets.now.of_sequences
+    c.close_by_rows.new.regrets.of_sequences)
     (same_amounts c.args.rows.now) c.close_by_rows.ensures.equations

@@ -16,22 +16,26 @@ returns-then-place-eq1-clause-worth_before g c =
     let h : PlacedSet = placed_of_row c.args.place in
     let fits : FitsSigned w128 c.worth_at-worth.result = search rules in
     let worth_is : to_z w128 (of_z w128 c.worth_at-worth.result) ≡ value_by c.args.play.now (map g.W.Worth.amount c.args.worths.now) h =
-    to_z-of_z w128 c.worth_at-worth.result fits ∙ c.worth_at-worth.ensures ∙ sym (only_value c.args.play.now (map g.W.Worth.amount c.args.worths.now) h (omega arith) c.requires.all_units) in
+    to_z-of_z w128 c.worth_at-worth.result fits ∙ c.worth_at-worth.ensures
+    ∙ sym (only_value c.args.play.now (map g.W.Worth.amount c.args.worths.now) h (omega arith) c.requires.all_units) in
     c.add_worth.ensures.here ∙ ap (λ v. int_wrap g.W.Worth.width (amount_of (map g.W.Worth.amount c.args.worths.now) h.before +ℤ v)) worth_is
 
 pub returns-then-place-eq1-clause-of_set : goal.returns-then-place-eq1-clause-of_set
 returns-then-place-eq1-clause-of_set g c = λ s from to.
     let h : PlacedSet = placed_of_row c.args.place in
     let first : s ≡ h.first = omega arith in
-    nothing_grows (regret_of (map g.R.Worth.amount c.args.regrets.now) s) (amount_of (map g.W.Worth.amount c.args.worths.now) s) (value_by c.args.play.now (map g.W.Worth.amount c.args.worths.now) h)
-    (only_value c.args.play.now (map g.W.Worth.amount c.args.worths.now) h (omega arith) c.requires.all_units ∙ ap (amount_of (map g.W.Worth.amount c.args.worths.now)) (sym first))
+    nothing_grows (regret_of (map g.R.Worth.amount c.args.regrets.now) s) (amount_of (map g.W.Worth.amount c.args.worths.now) s)
+    (value_by c.args.play.now (map g.W.Worth.amount c.args.worths.now) h)
+    (only_value c.args.play.now (map g.W.Worth.amount c.args.worths.now) h (omega arith) c.requires.all_units
+    ∙ ap (amount_of (map g.W.Worth.amount c.args.worths.now)) (sym first))
 
 pub add_worth-requires-clause-fits : goal.add_worth-requires-clause-fits
 add_worth-requires-clause-fits g c =
     let h : PlacedSet = placed_of_row c.args.place in
     let fits : FitsSigned w128 c.worth_at-worth.result = search rules in
     let worth_is : to_z w128 (of_z w128 c.worth_at-worth.result) ≡ value_by c.args.play.now (map g.W.Worth.amount c.args.worths.now) h =
-    to_z-of_z w128 c.worth_at-worth.result fits ∙ c.worth_at-worth.ensures ∙ sym (only_value c.args.play.now (map g.W.Worth.amount c.args.worths.now) h (omega arith) c.requires.all_units) in
+    to_z-of_z w128 c.worth_at-worth.result fits ∙ c.worth_at-worth.ensures
+    ∙ sym (only_value c.args.play.now (map g.W.Worth.amount c.args.worths.now) h (omega arith) c.requires.all_units) in
     subst (FitsSigned g.W.Worth.width) (sym worth_is) c.requires.fits
 
 pub add_regrets-requires-clause-growth : goal.add_regrets-requires-clause-growth

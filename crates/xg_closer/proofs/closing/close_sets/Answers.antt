@@ -145,7 +145,8 @@ loop-set-preserved g c =
     ap (start_of (player_sets c.args.form.now c.args.player)) behind ∙ at.next in (
       record {
         count =
-            length-map c.close_set.new.worths g.W.Worth.amount ∙ c.close_set.ensures.worths_count ∙ sym (length-map c.loop-set.worths g.W.Worth.amount) ∙ c.loop-set.invariant.0.count;
+            length-map c.close_set.new.worths g.W.Worth.amount ∙ c.close_set.ensures.worths_count ∙ sym (length-map c.loop-set.worths g.W.Worth.amount)
+            ∙ c.loop-set.invariant.0.count;
         each = λ s low.
             ⊎_elim
             (λ here. rw here (c.close_set.ensures.worth_before ∙ step.before))

@@ -9,8 +9,11 @@ use Rattle.def_plan.specs.FormRows.{amount_of}
 
 abbrev pub invariant-loop-set : goal.invariant-loop-set
 invariant-loop-set g l =
-    KeepsWorths g.W.Worth.width (amount_of (map g.W.Worth.amount l.initial.worths)) l.play (player_sets l.form l.fn.player) l.set (map g.W.Worth.amount l.worths)
+    KeepsWorths g.W.Worth.width (amount_of (map g.W.Worth.amount l.initial.worths)) l.play (player_sets l.form l.fn.player) l.set
+    (map g.W.Worth.amount l.worths)
     × (length l.regrets ≡ length l.initial.regrets)
-    × ((s : ℕ) → s < start_of (player_sets l.form l.fn.player) l.set → regret_of (map g.R.Worth.amount l.regrets) s ≡ regret_of (map g.R.Worth.amount l.initial.regrets) s)
+    × ((s : ℕ) → s < start_of (player_sets l.form l.fn.player) l.set → regret_of (map g.R.Worth.amount l.regrets) s
+    ≡ regret_of (map g.R.Worth.amount l.initial.regrets) s)
     × ((s : ℕ) → start_of (player_sets l.form l.fn.player) l.set ≤ s
-    → regret_of (map g.R.Worth.amount l.regrets) s ≡ regret_of (regrets_after (amount_of (map g.W.Worth.amount l.initial.worths)) l.play (player_sets l.form l.fn.player) (map g.R.Worth.amount l.initial.regrets)) s)
+    → regret_of (map g.R.Worth.amount l.regrets) s ≡ regret_of (regrets_after (amount_of (map g.W.Worth.amount l.initial.worths)) l.play
+    (player_sets l.form l.fn.player) (map g.R.Worth.amount l.initial.regrets)) s)

@@ -23,7 +23,8 @@ loop-i-preserved g c =
     let row_is : to_z w128 (of_z w128 c.worth_at.result) ≡ amount_of rows i = to_z-of_z w128 c.worth_at.result fits ∙ c.worth_at.ensures in
     let fits_own : FitsSigned w128 c.own_wide_row.result = search rules in
     let own : ℤ = to_z w128 (of_z w128 c.own_wide_row.result) in
-    let own_is : own ≡ utility c.args.player (amount_of rows i) = to_z-of_z w128 c.own_wide_row.result fits_own ∙ c.own_wide_row.ensures ∙ ap (utility c.args.player) row_is in
+    let own_is : own ≡ utility c.args.player (amount_of rows i) = to_z-of_z w128 c.own_wide_row.result fits_own ∙ c.own_wide_row.ensures
+    ∙ ap (utility c.args.player) row_is in
     let inside : i < length c.loop-i.worths = omega (arith, c.loop-i.invariant.0, c.requires.as_many) in (
       length-set c.loop-i.worths i own ∙ c.loop-i.invariant.0,
       λ s below.
@@ -39,5 +40,6 @@ returns-clause-each g c s =
     let count : length rows ≡ length c.args.rows.now = length-map c.args.rows.now g.A.Worth.amount in
     ⊎_elim
     (λ low. c.loop-i.invariant.1 s (omega (arith, low)))
-    (λ high. get_or_past c.loop-i.worths s (pos 0) (omega (arith, c.loop-i.invariant.0, c.requires.as_many)) ∙ sym (own_amount_beyond c.args.player rows s (omega (arith, count))))
+    (λ high. get_or_past c.loop-i.worths s (pos 0) (omega (arith, c.loop-i.invariant.0, c.requires.as_many))
+    ∙ sym (own_amount_beyond c.args.player rows s (omega (arith, count))))
     (cases_lt s (length c.args.rows.now))

@@ -1,4 +1,5 @@
-use Rattle.std.proofs.Common.{◌≡◌, ℕ, ◌+◌, ◌<◌, ◌≤◌, List, [], ◌∷◌, length, length-set, get_or, map, take, drop, ℤ, pos, unsigned_abs, FitsSigned, to_z, of_z, arith, ap, refl, rules, sym, ◌∙◌, ⊎_elim}
+use Rattle.std.proofs.Common.{◌≡◌, ℕ, ◌+◌, ◌<◌, ◌≤◌, List, [], ◌∷◌, length, length-set, get_or, map, take, drop, ℤ, pos, unsigned_abs, FitsSigned, to_z, of_z}
+use Rattle.std.proofs.Common.{arith, ap, refl, rules, sym, ◌∙◌, ⊎_elim}
 use Rattle.std.specs.Int.{w64, w128}
 use Rattle.std.proofs.lemmas.Bool.{cases_eq, cases_lt}
 use Rattle.std.proofs.lemmas.Int.{to_z-of_z}
@@ -30,11 +31,21 @@ loop-i-preserved g c =
     let known = c.in-Some.ensures.within in
     let taken : to_z w64 (of_z w64 c.in-Some.row) ≡ row = small_is ∙ known.0 ∙ row_is in
     let fits_own : FitsSigned w64 c.own_row.result = search rules in
-    let own_is : to_z w64 (of_z w64 c.own_row.result) ≡ utility c.args.player row = to_z-of_z w64 c.own_row.result fits_own ∙ c.own_row.ensures ∙ ap (utility c.args.player) taken in
+    let own_is : to_z w64 (of_z w64 c.own_row.result) ≡ utility c.args.player row = to_z-of_z w64 c.own_row.result fits_own ∙ c.own_row.ensures
+    ∙ ap (utility c.args.player) taken in
     let below : i < length rows = omega (arith, count, c.loop-i-test.true) in
     let inside : i < length c.loop-i.worths = omega (arith, c.loop-i.invariant.0, c.requires.as_many, c.loop-i-test.true) in (
       length-set c.loop-i.worths i (to_z w64 (of_z w64 c.own_row.result)) ∙ c.loop-i.invariant.0,
-      omega (arith, ap (nat_sum_over unsigned_abs) (take_more rows i (pos 0) below), nat_sum_over-append unsigned_abs (take i rows) (get_or rows i (pos 0) ∷ []), ap unsigned_abs taken, ap unsigned_abs row_is, c.unsigned_abs-room.ensures.value, known.1, c.loop-i.invariant.1),
+      omega (
+        arith,
+        ap (nat_sum_over unsigned_abs) (take_more rows i (pos 0) below),
+        nat_sum_over-append unsigned_abs (take i rows) (get_or rows i (pos 0) ∷ []),
+        ap unsigned_abs taken,
+        ap unsigned_abs row_is,
+        c.unsigned_abs-room.ensures.value,
+        known.1,
+        c.loop-i.invariant.1,
+      ),
       λ s low.
           ⊎_elim
           (λ here. rw here (get_or-set_same c.loop-i.worths i (to_z w64 (of_z w64 c.own_row.result)) (pos 0) inside ∙ own_is))
@@ -52,7 +63,8 @@ returns-clause-taken g c =
       each = λ s.
           ⊎_elim
           (λ low. c.loop-i.invariant.2 s (omega (arith, low, past)))
-          (λ high. get_or_past c.loop-i.worths s (pos 0) (omega (arith, c.loop-i.invariant.0, c.requires.as_many, count)) ∙ sym (own_amount_beyond c.args.player rows s (omega arith)))
+          (λ high. get_or_past c.loop-i.worths s (pos 0) (omega (arith, c.loop-i.invariant.0, c.requires.as_many, count))
+          ∙ sym (own_amount_beyond c.args.player rows s (omega arith)))
           (cases_lt s (length rows));
       together = omega (arith, c.loop-i.invariant.1, all);
       small = omega (arith, c.loop-i.invariant.1, all);

@@ -21,4 +21,5 @@ loop-s-preserved g c =
 pub returns : goal.returns
 returns g c =
     let amount = g.W.Worth.amount in
-    all_cut (map amount c.args.worths.now) (map amount c.loop-s.worths) c.loop-s.s c.loop-s.invariant (omega (arith, c.loop-s-test.false, length-map c.args.worths.now amount))
+    all_cut (map amount c.args.worths.now) (map amount c.loop-s.worths) c.loop-s.s c.loop-s.invariant
+    (omega (arith, c.loop-s-test.false, length-map c.args.worths.now amount))

@@ -5,4 +5,5 @@ use Rattle.xg_closer.specs.Playing.{PlaysFirst}
 use Rattle.xg_closer.proofs.playing.play_evenly.Given as goal
 
 abbrev pub invariant-loop-i : goal.invariant-loop-i
-invariant-loop-i g l = (l.given ≡ units * l.i / l.fn.place.actions) × PlaysFirst l.fn.place.first l.i (set_play (map g.R.Worth.amount l.regrets) (placed_of_row l.fn.place)) l.initial.play l.play
+invariant-loop-i g l = (l.given ≡ units * l.i / l.fn.place.actions) × PlaysFirst l.fn.place.first l.i
+    (set_play (map g.R.Worth.amount l.regrets) (placed_of_row l.fn.place)) l.initial.play l.play

@@ -11,7 +11,8 @@ returns-in-Some-clause-by_regrets c =
     let wide : List ℤ = c.regrets.inside.regrets.items in
     let kept_is : kept_regrets c.regrets.inside.most_small small wide ≡ small = ap (λ most. kept_regrets most small wide) c.in-Some.is in
     c.play_sets.ensures.by_regrets
-    ∙ ap (play_of (player_sets c.args.form.now c.args.player)) (same_amounts c.deref.result.now ∙ c.deref.ensures.value ∙ sym kept_is ∙ ap (λ (r : RegretsSoFar). r.of_sequences) c.regrets.view_is)
+    ∙ ap (play_of (player_sets c.args.form.now c.args.player)) (same_amounts c.deref.result.now ∙ c.deref.ensures.value ∙ sym kept_is
+    ∙ ap (λ (r : RegretsSoFar). r.of_sequences) c.regrets.view_is)
 
 pub returns-in-None-clause-by_regrets : goal.returns-in-None-clause-by_regrets
 returns-in-None-clause-by_regrets c =
@@ -19,4 +20,5 @@ returns-in-None-clause-by_regrets c =
     let wide : List ℤ = c.regrets.inside.regrets.items in
     let kept_is : kept_regrets c.regrets.inside.most_small small wide ≡ wide = ap (λ most. kept_regrets most small wide) c.in-None.is in
     c.play_sets-in-None.ensures.by_regrets
-    ∙ ap (play_of (player_sets c.args.form.now c.args.player)) (same_amounts c.deref-in-None.result.now ∙ c.deref-in-None.ensures.value ∙ sym kept_is ∙ ap (λ (r : RegretsSoFar). r.of_sequences) c.regrets.view_is)
+    ∙ ap (play_of (player_sets c.args.form.now c.args.player)) (same_amounts c.deref-in-None.result.now ∙ c.deref-in-None.ensures.value ∙ sym kept_is
+    ∙ ap (λ (r : RegretsSoFar). r.of_sequences) c.regrets.view_is)

@@ -15,7 +15,8 @@ returns-then-place-eq1 g c =
     let shares : List ℕ = set_play (map g.R.Worth.amount c.args.regrets.now) h in
     let one : h.actions ≡ 1 = omega arith in
     let none : h.first + 0 ≡ h.first = omega arith in
-    let share : 65536 ≡ get_or shares 0 0 = sym (only_share units (positive_parts (map g.R.Worth.amount c.args.regrets.now) h) (length-positive_parts (map g.R.Worth.amount c.args.regrets.now) h ∙ one)) in
+    let share : 65536 ≡ get_or shares 0 0 = sym (only_share units (positive_parts (map g.R.Worth.amount c.args.regrets.now) h)
+    (length-positive_parts (map g.R.Worth.amount c.args.regrets.now) h ∙ one)) in
     let written : PlaysFirst h.first 1 shares play (set play h.first 65536) =
     subst (λ n. PlaysFirst h.first 1 shares play (set play n 65536)) none
     (plays_more h.first 0 shares play play 65536 (plays_none h.first shares play) (omega (arith, c.requires.as_many, c.requires.inside)) share) in

@@ -6,4 +6,5 @@ use Rattle.xg_closer.proofs.playing.play_sets.Given as goal
 
 abbrev pub invariant-loop-set : goal.invariant-loop-set
 invariant-loop-set g l = (length l.play ≡ length l.initial.play)
-    × ((s : ℕ) → s < start_of (player_sets l.form l.fn.player) l.set → slice_index l.play s ≡ slice_index (play_of (player_sets l.form l.fn.player) (map g.R.Worth.amount l.regrets)) s)
+    × ((s : ℕ) → s < start_of (player_sets l.form l.fn.player) l.set → slice_index l.play s
+    ≡ slice_index (play_of (player_sets l.form l.fn.player) (map g.R.Worth.amount l.regrets)) s)

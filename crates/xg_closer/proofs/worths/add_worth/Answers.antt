@@ -12,7 +12,8 @@ returns-clause-here g c =
     let read = get_or-map g.W.Worth.amount c.args.worths.now c.args.s c.index-worths-s.result (pos 0) c.requires.inside in
     ap (λ ws. amount_of ws c.args.s) (map-set g.W.Worth.amount c.args.worths.now c.args.s c.plus.result)
     ∙ get_or-set_same worths c.args.s (g.W.Worth.amount c.plus.result) (pos 0) inside
-    ∙ c.plus.ensures ∙ ap (λ value. int_wrap g.W.Worth.width (g.W.Worth.amount (get_or c.args.worths.now c.args.s c.index-worths-s.result) +ℤ value)) (to_z-of_z w128 c.args.value c.ranges.value)
+    ∙ c.plus.ensures ∙ ap (λ value. int_wrap g.W.Worth.width (g.W.Worth.amount (get_or c.args.worths.now c.args.s c.index-worths-s.result) +ℤ value))
+    (to_z-of_z w128 c.args.value c.ranges.value)
     ∙ ap (λ worth. int_wrap g.W.Worth.width (worth +ℤ c.args.value)) (sym read)
 
 pub returns-clause-others : goal.returns-clause-others

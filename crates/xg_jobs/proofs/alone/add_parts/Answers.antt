@@ -1,4 +1,5 @@
-use Rattle.std.proofs.Common.{◌≡◌, ℕ, ◌<◌, ◌≤◌, ◌+◌, ◌*◌, ℤ, pos, ◌+ℤ◌, ◌*ℤ◌, unsigned_abs, length, get_or, take, List, map, rules, arith, FitsSigned, to_z, of_z, ap, sym, ◌∙◌, ⊎_elim}
+use Rattle.std.proofs.Common.{◌≡◌, ℕ, ◌<◌, ◌≤◌, ◌+◌, ◌*◌, ℤ, pos, ◌+ℤ◌, ◌*ℤ◌, unsigned_abs, length, get_or, take, List, map, rules, arith, FitsSigned, to_z}
+use Rattle.std.proofs.Common.{of_z, ap, sym, ◌∙◌, ⊎_elim}
 use Rattle.std.specs.Int.{w64}
 use Rattle.std.proofs.lemmas.Int.{to_z-of_z}
 use Rattle.std.proofs.lemmas.List.{length-map}
@@ -53,9 +54,15 @@ add_product-requires-clause-room g c =
     let was = c.loop-e.invariant b in
     let part = part_here x gs i e b here read c.other-b.ensures in
     let apart = +ℤ_assoc old (group_part x (take i gs) b) (e.weight *ℤ pos x) in
-    let row_next : amount_of (map g.R.Row.amount c.loop-e.other) b +ℤ (to_z w64 (of_z w64 c.weight-w.result) *ℤ pos x) ≡ old +ℤ group_part x (take (i + 1) gs) b =
+    let row_next : amount_of (map g.R.Row.amount c.loop-e.other) b +ℤ (to_z w64 (of_z w64 c.weight-w.result) *ℤ pos x) ≡ old
+    +ℤ group_part x (take (i + 1) gs) b =
     cc (was, part, apart, c.weight-w.ensures) in
-    omega (arith, ap unsigned_abs row_next, within_room old (group_part x (take (i + 1) gs) b) (group_mass gs * g.most) g.R.Row.limit (front_size x g.most gs (i + 1) b c.requires.1.1.1.0) (c.requires.1.1.1.1.1 b))
+    omega (
+      arith,
+      ap unsigned_abs row_next,
+      within_room old (group_part x (take (i + 1) gs) b) (group_mass gs * g.most) g.R.Row.limit
+          (front_size x g.most gs (i + 1) b c.requires.1.1.1.0) (c.requires.1.1.1.1.1 b),
+    )
 
 pub loop-e-preserved : goal.loop-e-preserved
 loop-e-preserved g c =
@@ -74,7 +81,8 @@ loop-e-preserved g c =
     let was = c.loop-e.invariant b in
     let part = part_here x gs i e b here read c.other-b.ensures in
     let apart = +ℤ_assoc old (group_part x (take i gs) b) (e.weight *ℤ pos x) in
-    let row_next : amount_of (map g.R.Row.amount c.loop-e.other) b +ℤ (to_z w64 (of_z w64 c.weight-w.result) *ℤ pos x) ≡ old +ℤ group_part x (take (i + 1) gs) b =
+    let row_next : amount_of (map g.R.Row.amount c.loop-e.other) b +ℤ (to_z w64 (of_z w64 c.weight-w.result) *ℤ pos x) ≡ old
+    +ℤ group_part x (take (i + 1) gs) b =
     cc (was, part, apart, c.weight-w.ensures) in
     λ k.
     ⊎_elim

@@ -23,7 +23,8 @@ add_parts-requires g c κs within =
             c.requires.1.1.1.1.1.1.0 n,
             (
               c.requires.1.1.1.1.1.1.1.0,
-              λ b. rw is (room_left g.R.Row.limit starts gs c.args.one.now n all g.most b (amount_of (map g.R.Row.amount c.loop-s.other) b) (amount_of (map g.R.Row.amount c.args.other.now) b) low (c.loop-s.invariant b) c.requires.1.1.1.1.1.1.0 (c.requires.1.1.1.1.1.1.1.1 b)),
+              λ b. rw is (room_left g.R.Row.limit starts gs c.args.one.now n all g.most b (amount_of (map g.R.Row.amount c.loop-s.other) b)
+                  (amount_of (map g.R.Row.amount c.args.other.now) b) low (c.loop-s.invariant b) c.requires.1.1.1.1.1.1.0 (c.requires.1.1.1.1.1.1.1.1 b)),
             ),
           ),
         ),
@@ -38,6 +39,9 @@ loop-s-preserved g c =
     let is = group_map g.E.GroupEntry.leaf starts c.args.entries.now n in
     λ b.
     elim c.if-one-s-ne0.branch [
-      | then-one-s-ne0 w ↦ row_after starts gs c.args.one.now n b _ _ _ (amount_of (map g.R.Row.amount c.args.other.now) b) is (c.loop-s.invariant b) (ap (λ rows. amount_of (map g.R.Row.amount rows) b) w.other-is ∙ w.add_parts.ensures.other b)
-      | else-one-s-ne0 w ↦ row_after starts gs c.args.one.now n b (group_at starts gs n) _ _ (amount_of (map g.R.Row.amount c.args.other.now) b) refl (c.loop-s.invariant b) (ap (λ rows. amount_of (map g.R.Row.amount rows) b) w.other-is ∙ row_untouched _ (group_at starts gs n) b _ w.if-one-s-ne0.false)
+      | then-one-s-ne0 w ↦ row_after starts gs c.args.one.now n b _ _ _ (amount_of (map g.R.Row.amount c.args.other.now) b) is (c.loop-s.invariant b)
+          (ap (λ rows. amount_of (map g.R.Row.amount rows) b) w.other-is ∙ w.add_parts.ensures.other b)
+      | else-one-s-ne0 w ↦ row_after starts gs c.args.one.now n b (group_at starts gs n) _ _ (amount_of (map g.R.Row.amount c.args.other.now) b) refl
+          (c.loop-s.invariant b) (ap (λ rows. amount_of (map g.R.Row.amount rows) b) w.other-is
+          ∙ row_untouched _ (group_at starts gs n) b _ w.if-one-s-ne0.false)
     ]

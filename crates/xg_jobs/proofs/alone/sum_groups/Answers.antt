@@ -19,7 +19,13 @@ sum_group-requires g c κs within =
       within.0,
       (
         within.1,
-        (rw is (c.requires.1.1.1.1.1.0 n low), (c.requires.1.1.1.1.1.1.0, (c.requires.1.1.1.1.1.1.1.0, rw is (omega (arith, scaled, c.requires.1.1.1.1.1.1.1.1))))),
+        (
+          rw is (c.requires.1.1.1.1.1.0 n low),
+          (
+            c.requires.1.1.1.1.1.1.0,
+            (c.requires.1.1.1.1.1.1.1.0, rw is (omega (arith, scaled, c.requires.1.1.1.1.1.1.1.1))),
+          ),
+        ),
       ),
     )
 

@@ -27,7 +27,9 @@ add_group-sum-requires g c κs within =
                 c.requires.1.1.1.1.1.1.1.1.1.0,
                 (
                   c.requires.1.1.1.1.1.1.1.1.1.1.0,
-                  λ b. rw is (room_left g.R.Row.limit starts gs c.args.one.now n all g.most b (amount_of (map g.R.Row.amount c.loop-s.other) b) (amount_of (map g.R.Row.amount c.args.other.now) b) low (c.loop-s.invariant.1 b) c.requires.1.1.1.1.1.1.1.1.0 (c.requires.1.1.1.1.1.1.1.1.1.1.1 b)),
+                  λ b. rw is (room_left g.R.Row.limit starts gs c.args.one.now n all g.most b (amount_of (map g.R.Row.amount c.loop-s.other) b)
+                      (amount_of (map g.R.Row.amount c.args.other.now) b) low (c.loop-s.invariant.1 b) c.requires.1.1.1.1.1.1.1.1.0
+                      (c.requires.1.1.1.1.1.1.1.1.1.1.1 b)),
                 ),
               ),
             ),
@@ -47,5 +49,6 @@ loop-s-preserved g c =
           (λ same. rw same (c.put.ensures.here ∙ c.add_group-sum.ensures.own ∙ ap (group_sum c.args.two.now) is))
           (λ there. c.put.ensures.others t there ∙ c.loop-s.invariant.0 t (omega arith))
           (cases_eq t n),
-      λ b. row_after starts gs c.args.one.now n b _ _ _ (amount_of (map g.R.Row.amount c.args.other.now) b) is (c.loop-s.invariant.1 b) (c.add_group-sum.ensures.other b),
+      λ b. row_after starts gs c.args.one.now n b _ _ _ (amount_of (map g.R.Row.amount c.args.other.now) b) is (c.loop-s.invariant.1 b)
+          (c.add_group-sum.ensures.other b),
     )

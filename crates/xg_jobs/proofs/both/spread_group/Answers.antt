@@ -1,4 +1,5 @@
-use Rattle.std.proofs.Common.{◌≡◌, ℕ, ◌<◌, ◌≤◌, ◌+◌, ◌*◌, ℤ, pos, ◌+ℤ◌, ◌*ℤ◌, unsigned_abs, length, get_or, take, List, map, rules, arith, FitsSigned, to_z, of_z, ap, sym, ◌∙◌, ⊎_elim}
+use Rattle.std.proofs.Common.{◌≡◌, ℕ, ◌<◌, ◌≤◌, ◌+◌, ◌*◌, ℤ, pos, ◌+ℤ◌, ◌*ℤ◌, unsigned_abs, length, get_or, take, List, map, rules, arith, FitsSigned, to_z}
+use Rattle.std.proofs.Common.{of_z, ap, sym, ◌∙◌, ⊎_elim}
 use Rattle.std.specs.Int.{w64}
 use Rattle.std.proofs.lemmas.Int.{to_z-of_z}
 use Rattle.std.proofs.lemmas.List.{length-map}
@@ -37,7 +38,8 @@ plus_product-sum-requires-clause-product g c =
     let w_is : to_z w64 (of_z w64 c.weight-w.result) ≡ c.weight-w.result = to_z-of_z w64 c.weight-w.result fits in
     let light : unsigned_abs e.weight ≤ group_mass gs = weight_within gs i e here read in
     let room : group_mass gs * g.most < g.R.Row.limit = omega (arith, c.requires.1.1.1.1.1.1.1 0) in
-    rw (w_is, c.weight-w.ensures, c.other-b.ensures) (product_within e.weight (get_or y e.other 0) g.most (group_mass gs) g.R.Row.limit (c.requires.1.1.1.1.1.0 e.other) light room)
+    rw (w_is, c.weight-w.ensures, c.other-b.ensures) (product_within e.weight (get_or y e.other 0) g.most (group_mass gs) g.R.Row.limit
+    (c.requires.1.1.1.1.1.0 e.other) light room)
 
 pub plus_product-sum-requires-clause-room : goal.plus_product-sum-requires-clause-room
 plus_product-sum-requires-clause-room g c =
@@ -53,7 +55,8 @@ plus_product-sum-requires-clause-room g c =
     let w_is : to_z w64 (of_z w64 c.weight-w.result) ≡ c.weight-w.result = to_z-of_z w64 c.weight-w.result fits in
     let room : group_mass gs * g.most < g.R.Row.limit = omega (arith, c.requires.1.1.1.1.1.1.1 0) in
     let more = sum_more y gs i e here read in
-    let next : g.R.Row.amount c.loop-e.sum +ℤ (to_z w64 (of_z w64 c.weight-w.result) *ℤ pos (get_or y c.other-b.result 0)) ≡ group_sum y (take (i + 1) gs) = cc (c.loop-e.invariant.0, c.weight-w.ensures, c.other-b.ensures) in
+    let next : g.R.Row.amount c.loop-e.sum +ℤ (to_z w64 (of_z w64 c.weight-w.result) *ℤ pos (get_or y c.other-b.result 0))
+    ≡ group_sum y (take (i + 1) gs) = cc (c.loop-e.invariant.0, c.weight-w.ensures, c.other-b.ensures) in
     omega (arith, ap unsigned_abs next, sum_size y g.most gs (i + 1) c.requires.1.1.1.1.1.0, room)
 
 pub add_product-requires-clause-inside : goal.add_product-requires-clause-inside
@@ -103,9 +106,15 @@ add_product-requires-clause-room g c =
     let was = c.loop-e.invariant.1 b in
     let part = part_here x gs i e b here read c.other-b.ensures in
     let apart = +ℤ_assoc old (group_part x (take i gs) b) (e.weight *ℤ pos x) in
-    let row_next : amount_of (map g.R.Row.amount c.loop-e.other) b +ℤ (to_z w64 (of_z w64 c.weight-w.result) *ℤ pos x) ≡ old +ℤ group_part x (take (i + 1) gs) b =
+    let row_next : amount_of (map g.R.Row.amount c.loop-e.other) b +ℤ (to_z w64 (of_z w64 c.weight-w.result) *ℤ pos x) ≡ old
+    +ℤ group_part x (take (i + 1) gs) b =
     cc (was, part, apart, c.weight-w.ensures) in
-    omega (arith, ap unsigned_abs row_next, within_room old (group_part x (take (i + 1) gs) b) (group_mass gs * g.most) g.R.Row.limit (front_size x g.most gs (i + 1) b c.requires.1.1.1.1.0) (c.requires.1.1.1.1.1.1.1 b))
+    omega (
+      arith,
+      ap unsigned_abs row_next,
+      within_room old (group_part x (take (i + 1) gs) b) (group_mass gs * g.most) g.R.Row.limit
+          (front_size x g.most gs (i + 1) b c.requires.1.1.1.1.0) (c.requires.1.1.1.1.1.1.1 b),
+    )
 
 pub loop-e-preserved : goal.loop-e-preserved
 loop-e-preserved g c =
@@ -120,14 +129,16 @@ loop-e-preserved g c =
     let fits : FitsSigned w64 c.weight-w.result = search rules in
     let w_is : to_z w64 (of_z w64 c.weight-w.result) ≡ c.weight-w.result = to_z-of_z w64 c.weight-w.result fits in
     let more = sum_more y gs i e here read in
-    let next : g.R.Row.amount c.loop-e.sum +ℤ (to_z w64 (of_z w64 c.weight-w.result) *ℤ pos (get_or y c.other-b.result 0)) ≡ group_sum y (take (i + 1) gs) = cc (c.loop-e.invariant.0, c.weight-w.ensures, c.other-b.ensures) in
+    let next : g.R.Row.amount c.loop-e.sum +ℤ (to_z w64 (of_z w64 c.weight-w.result) *ℤ pos (get_or y c.other-b.result 0))
+    ≡ group_sum y (take (i + 1) gs) = cc (c.loop-e.invariant.0, c.weight-w.ensures, c.other-b.ensures) in
     let b : ℕ = c.other-b.result in
     let x : ℕ = c.args.number in
     let old : ℤ = amount_of (map g.R.Row.amount c.args.other.now) b in
     let was = c.loop-e.invariant.1 b in
     let part = part_here x gs i e b here read c.other-b.ensures in
     let apart = +ℤ_assoc old (group_part x (take i gs) b) (e.weight *ℤ pos x) in
-    let row_next : amount_of (map g.R.Row.amount c.loop-e.other) b +ℤ (to_z w64 (of_z w64 c.weight-w.result) *ℤ pos x) ≡ old +ℤ group_part x (take (i + 1) gs) b =
+    let row_next : amount_of (map g.R.Row.amount c.loop-e.other) b +ℤ (to_z w64 (of_z w64 c.weight-w.result) *ℤ pos x) ≡ old
+    +ℤ group_part x (take (i + 1) gs) b =
     cc (was, part, apart, c.weight-w.ensures) in (
       c.plus_product-sum.ensures ∙ next,
       λ k.

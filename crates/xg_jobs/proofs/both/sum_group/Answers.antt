@@ -1,4 +1,5 @@
-use Rattle.std.proofs.Common.{◌≡◌, ℕ, ◌<◌, ◌≤◌, ◌+◌, pos, ◌+ℤ◌, ◌*ℤ◌, unsigned_abs, length, get_or, take, List, map, rules, arith, FitsSigned, to_z, of_z, ap, ◌∙◌}
+use Rattle.std.proofs.Common.{◌≡◌, ℕ, ◌<◌, ◌≤◌, ◌+◌, pos, ◌+ℤ◌, ◌*ℤ◌, unsigned_abs, length, get_or, take, List, map, rules, arith, FitsSigned, to_z, of_z, ap}
+use Rattle.std.proofs.Common.{◌∙◌}
 use Rattle.std.specs.Int.{w64}
 use Rattle.std.proofs.lemmas.Int.{to_z-of_z}
 use Rattle.std.proofs.lemmas.List.{length-map}
@@ -32,7 +33,8 @@ plus_product-sum-requires-clause-product g c =
     let fits : FitsSigned w64 c.weight-w.result = search rules in
     let w_is : to_z w64 (of_z w64 c.weight-w.result) ≡ c.weight-w.result = to_z-of_z w64 c.weight-w.result fits in
     let light : unsigned_abs e.weight ≤ group_mass gs = weight_within gs i e here read in
-    rw (w_is, c.weight-w.ensures, c.other.ensures) (product_within e.weight (get_or y e.other 0) g.most (group_mass gs) g.R.Row.limit (c.requires.1.1.1.0 e.other) light c.requires.1.1.1.1.1)
+    rw (w_is, c.weight-w.ensures, c.other.ensures) (product_within e.weight (get_or y e.other 0) g.most (group_mass gs) g.R.Row.limit
+    (c.requires.1.1.1.0 e.other) light c.requires.1.1.1.1.1)
 
 pub plus_product-sum-requires-clause-room : goal.plus_product-sum-requires-clause-room
 plus_product-sum-requires-clause-room g c =
@@ -47,7 +49,8 @@ plus_product-sum-requires-clause-room g c =
     let fits : FitsSigned w64 c.weight-w.result = search rules in
     let w_is : to_z w64 (of_z w64 c.weight-w.result) ≡ c.weight-w.result = to_z-of_z w64 c.weight-w.result fits in
     let more = sum_more y gs i e here read in
-    let next : g.R.Row.amount c.loop-e.sum +ℤ (to_z w64 (of_z w64 c.weight-w.result) *ℤ pos (get_or y c.other.result 0)) ≡ group_sum y (take (i + 1) gs) = cc (c.loop-e.invariant, c.weight-w.ensures, c.other.ensures) in
+    let next : g.R.Row.amount c.loop-e.sum +ℤ (to_z w64 (of_z w64 c.weight-w.result) *ℤ pos (get_or y c.other.result 0))
+    ≡ group_sum y (take (i + 1) gs) = cc (c.loop-e.invariant, c.weight-w.ensures, c.other.ensures) in
     omega (arith, ap unsigned_abs next, sum_size y g.most gs (i + 1) c.requires.1.1.1.0, c.requires.1.1.1.1.1)
 
 pub loop-e-preserved : goal.loop-e-preserved
@@ -63,5 +66,6 @@ loop-e-preserved g c =
     let fits : FitsSigned w64 c.weight-w.result = search rules in
     let w_is : to_z w64 (of_z w64 c.weight-w.result) ≡ c.weight-w.result = to_z-of_z w64 c.weight-w.result fits in
     let more = sum_more y gs i e here read in
-    let next : g.R.Row.amount c.loop-e.sum +ℤ (to_z w64 (of_z w64 c.weight-w.result) *ℤ pos (get_or y c.other.result 0)) ≡ group_sum y (take (i + 1) gs) = cc (c.loop-e.invariant, c.weight-w.ensures, c.other.ensures) in
+    let next : g.R.Row.amount c.loop-e.sum +ℤ (to_z w64 (of_z w64 c.weight-w.result) *ℤ pos (get_or y c.other.result 0))
+    ≡ group_sum y (take (i + 1) gs) = cc (c.loop-e.invariant, c.weight-w.ensures, c.other.ensures) in
     c.plus_product-sum.ensures ∙ next

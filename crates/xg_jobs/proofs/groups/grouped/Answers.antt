@@ -27,7 +27,8 @@ merged-requires-clause-groups g c =
     let facts = c.facts.ensures in
     let others : ℕ = sequence_count form.sets_two in
     let merges : CanMerge st raw others =
-    can_merge st raw others _ (groups_kept form One st raw _ _ c.in_ok-starts.ensures placed facts.sequences refl refl facts.mass) (omega (arith, placed.count, facts.leaves)) in
+    can_merge st raw others _ (groups_kept form One st raw _ _ c.in_ok-starts.ensures placed facts.sequences refl refl facts.mass)
+    (omega (arith, placed.count, facts.leaves)) in
     subst (CanMerge c.deref-2.result.now (map g.E.GroupEntry.leaf c.deref-3.result.now)) (sym c.sequence_count.ensures.count)
     (subst (λ a. CanMerge a (map g.E.GroupEntry.leaf c.deref-3.result.now) others) (sym c.deref-2.ensures.value)
     (subst (λ b. CanMerge st (map g.E.GroupEntry.leaf b) others) (sym c.deref-3.ensures.value) merges))

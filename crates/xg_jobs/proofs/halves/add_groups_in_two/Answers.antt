@@ -41,13 +41,15 @@ returns g c =
     let later : List ℤ = map g.R.Row.amount c.add_halves-full.new.later_own in
     let front : length own ≡ c.args.cut =
     length-map c.add_halves-full.new.own g.R.Row.amount ∙ c.add_halves-full.auto.own ∙ c.split_at_mut-first_own.ensures.front_len in
-    let both : map g.R.Row.amount (c.add_halves-full.new.own ++ c.add_halves-full.new.later_own) ≡ own ++ later = map-append g.R.Row.amount c.add_halves-full.new.own c.add_halves-full.new.later_own in
+    let both : map g.R.Row.amount (c.add_halves-full.new.own ++ c.add_halves-full.new.later_own) ≡ own
+    ++ later = map-append g.R.Row.amount c.add_halves-full.new.own c.add_halves-full.new.later_own in
     rw both (record {
       sums = sums_of_both starts gs c.args.two.now c.args.cut _ _ own later c.split_at-2.ensures.front c.split_at-3.ensures.back front
           c.add_halves-full.ensures.first.sums c.add_halves-full.ensures.later.sums;
       parts = λ b.
           c.add_rows.ensures b
           ∙ brings starts gs c.args.one.now c.args.cut (length (own ++ later)) b _ _ _ _ _ _ _ _ _ _
-          c.split_at-2.ensures.front c.split_at.ensures.front c.split_at-3.ensures.back c.split_at.ensures.back front (omega (arith, front, length-append own later))
+          c.split_at-2.ensures.front c.split_at.ensures.front c.split_at-3.ensures.back c.split_at.ensures.back front
+          (omega (arith, front, length-append own later))
           (c.add_halves-full.ensures.first.parts b) (zeros_at (length c.args.spare.now) b) (c.add_halves-full.ensures.later.parts b);
     })

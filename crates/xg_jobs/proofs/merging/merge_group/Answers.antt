@@ -30,13 +30,23 @@ merge_leaf-requires-clause-within g c =
 pub merge_leaf-requires-clause-light : goal.merge_leaf-requires-clause-light
 merge_leaf-requires-clause-light g c =
     let leaf = g.E.GroupEntry.leaf in
-    omega (arith, taken_mass leaf c.args.group.now c.args.entries.now.items c.len-begin.result c.loop-e.e-index c.e-item.result (map leaf c.loop-e.entries.items) c.loop-e-test.true c.e-item.is (omega (arith, c.len-begin.ensures)) c.loop-e.invariant.0, c.requires.light)
+    omega (
+      arith,
+      taken_mass leaf c.args.group.now c.args.entries.now.items c.len-begin.result c.loop-e.e-index c.e-item.result
+          (map leaf c.loop-e.entries.items) c.loop-e-test.true c.e-item.is (omega (arith, c.len-begin.ensures)) c.loop-e.invariant.0,
+      c.requires.light,
+    )
 
 pub merge_leaf-requires-clause-room : goal.merge_leaf-requires-clause-room
 merge_leaf-requires-clause-room g c =
     let leaf = g.E.GroupEntry.leaf in
     λ e small.
-    c.requires.room e (omega (arith, small, taken_mass leaf c.args.group.now c.args.entries.now.items c.len-begin.result c.loop-e.e-index c.e-item.result (map leaf c.loop-e.entries.items) c.loop-e-test.true c.e-item.is (omega (arith, c.len-begin.ensures)) c.loop-e.invariant.0))
+    c.requires.room e (omega (
+      arith,
+      small,
+      taken_mass leaf c.args.group.now c.args.entries.now.items c.len-begin.result c.loop-e.e-index c.e-item.result
+          (map leaf c.loop-e.entries.items) c.loop-e-test.true c.e-item.is (omega (arith, c.len-begin.ensures)) c.loop-e.invariant.0,
+    ))
 
 pub loop-e-preserved : goal.loop-e-preserved
 loop-e-preserved g c =
@@ -54,6 +64,7 @@ loop-e-preserved g c =
     let once : HaveOwnSequences (drop (length old) new) =
     told_once (length old) c.merge_leaf.new.places new (subst (λ k. TellPlaces k c.merge_leaf.new.places new) begins c.in_ok-merge_leaf.ensures.told) in (
       subst (λ xs. TakesGroup xs old new) (sym (next_leaf leaf group i c.e-item.result c.loop-e-test.true c.e-item.is))
-          (takes_more (take i (map leaf group)) e old now new c.loop-e.invariant.0 (subst (λ k. TakesLeaf k e now new) begins c.in_ok-merge_leaf.ensures.takes) once),
+          (takes_more (take i (map leaf group)) e old now new c.loop-e.invariant.0 (subst (λ k. TakesLeaf k e now new) begins c.in_ok-merge_leaf.ensures.takes)
+          once),
       told,
     )

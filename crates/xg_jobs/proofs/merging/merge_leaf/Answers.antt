@@ -1,11 +1,13 @@
-use Rattle.std.proofs.Common.{◌≡◌, ℕ, ◌<◌, ◌≤◌, List, length, set, map, slice_index, ℤ, ◌+ℤ◌, to_z, of_z, sym, ap, subst, ◌∙◌, unsigned_abs, arith, rules, ◌++◌, [], ◌∷◌}
+use Rattle.std.proofs.Common.{◌≡◌, ℕ, ◌<◌, ◌≤◌, List, length, set, map, slice_index, ℤ, ◌+ℤ◌, to_z, of_z, sym, ap, subst, ◌∙◌, unsigned_abs, arith, rules, ◌++◌}
+use Rattle.std.proofs.Common.{[], ◌∷◌}
 use Rattle.std.specs.Int.{w64}
 use Rattle.std.proofs.lemmas.List.{length-map, get_or_default, get_or-map, map-set, map-append}
 use Rattle.xg_jobs.specs.Groups.{GroupLeaf}
 use Rattle.xg_jobs.specs.Merging.{TakesLeaf, TellPlaces}
 use Rattle.xg_jobs.proofs.GroupSums.{leaf_at}
 use Rattle.xg_jobs.proofs.OneEntry.{leaf_added, leaf_pushed, more as with_more, told_added, told_pushed, weights_add_up}
-use Rattle.xg_jobs.proofs.merging.merge_leaf.Goals.{else-begin-place-via-then-begin-place+then-place-len+else-other, else-begin-place-via-then-begin-place+else-place-len, else-begin-place-via-else-begin-place}
+use Rattle.xg_jobs.proofs.merging.merge_leaf.Goals.{else-begin-place-via-then-begin-place+then-place-len+else-other}
+use Rattle.xg_jobs.proofs.merging.merge_leaf.Goals.{else-begin-place-via-then-begin-place+else-place-len, else-begin-place-via-else-begin-place}
 use Rattle.xg_jobs.proofs.merging.merge_leaf.Goals as goal
 
 pub overflow_add-weight : goal.overflow_add-weight
@@ -24,7 +26,11 @@ new-requires g c =
     let x = c.index-then-other.result.now in
     let both = weights_add_up g.E.GroupEntry.leaf items c.args.begin place x c.weight.result c.weight-then-other.result _
     (omega arith) (omega arith) c.index-then-other.ensures (search rules) c.weight.ensures (search rules) c.weight-then-other.ensures c.requires.light in
-    c.requires.room (record { other = c.other-other.result; weight = to_z w64 (of_z w64 (to_z w64 (of_z w64 c.weight.result) +ℤ to_z w64 (of_z w64 c.weight-then-other.result))) })
+    c.requires.room (record {
+      other = c.other-other.result;
+      weight = to_z w64
+          (of_z w64 (to_z w64 (of_z w64 c.weight.result) +ℤ to_z w64 (of_z w64 c.weight-then-other.result)));
+    })
     (omega (arith, ap unsigned_abs both.sum_is, both.within))
 
 pub returns-then-other-clause-takes : goal.returns-then-other-clause-takes
@@ -43,7 +49,8 @@ returns-then-other-clause-takes g c =
     let own : (leaf x).other ≡ c.other-other.result = ap (λ z. (leaf z).other) (sym both) ∙ omega arith in
     let known : ℕ → ℤ → GroupLeaf = λ b w. record { other = b; weight = w } in
     let leaf_is : leaf c.new.result ≡ with_more (leaf x) more = c.new.ensures ∙ (λ i. known (sym own i) (sum.sum_is i)) in
-    let set_is : map leaf (set items place c.new.result) ≡ set gs place (with_more (leaf x) more) = map-set leaf items place c.new.result ∙ (λ i. set gs place (leaf_is i)) in
+    let set_is : map leaf (set items place c.new.result) ≡ set gs place (with_more (leaf x) more) = map-set leaf items place c.new.result
+    ∙ (λ i. set gs place (leaf_is i)) in
     subst (TakesLeaf c.args.begin (leaf c.args.e) gs) (sym set_is)
     (leaf_added c.args.begin place (leaf c.args.e) (leaf x) gs (omega arith) (omega (arith, length-map items leaf))
     (leaf_at leaf items place x low c.index-then-other.ensures) (own ∙ c.other-other.ensures))
@@ -64,7 +71,8 @@ returns-then-other-clause-told g c =
     let own : (leaf x).other ≡ c.other-other.result = ap (λ z. (leaf z).other) (sym both) ∙ omega arith in
     let known : ℕ → ℤ → GroupLeaf = λ b w. record { other = b; weight = w } in
     let leaf_is : leaf c.new.result ≡ with_more (leaf x) more = c.new.ensures ∙ (λ i. known (sym own i) (sum.sum_is i)) in
-    let set_is : map leaf (set items place c.new.result) ≡ set gs place (with_more (leaf x) more) = map-set leaf items place c.new.result ∙ (λ i. set gs place (leaf_is i)) in
+    let set_is : map leaf (set items place c.new.result) ≡ set gs place (with_more (leaf x) more) = map-set leaf items place c.new.result
+    ∙ (λ i. set gs place (leaf_is i)) in
     subst (TellPlaces c.args.begin c.args.places.now) (sym set_is)
     (told_added c.args.begin place c.args.places.now (leaf x) more gs (leaf_at leaf items place x low c.index-then-other.ensures) c.requires.told)
 
@@ -98,7 +106,8 @@ returns-clause-told g c =
           let y = w.index.result.now in
           let below : place < length items = omega (arith, at, low, length-map items leaf) in
           let here : slice_index others place ≡ (leaf y).other =
-          get_or-map (λ (x : GroupLeaf). x.other) gs place (leaf y) 0 (omega (arith, at, low)) ∙ ap (λ (x : GroupLeaf). x.other) (leaf_at leaf items place y below w.index.ensures) in
+          get_or-map (λ (x : GroupLeaf). x.other) gs place (leaf y) 0 (omega (arith, at, low))
+          ∙ ap (λ (x : GroupLeaf). x.other) (leaf_at leaf items place y below w.index.ensures) in
           w.if-other.false (w.other.ensures ∙ sym here ∙ ap (slice_index others) at ∙ is ∙ sym own)
           )
       | else-begin-place-via-then-begin-place+else-place-len w ↦ absurd (omega (arith, at, low, w.if-place-len.false, w.len.ensures, length-map items leaf))

@@ -13,7 +13,8 @@ merge_group-requires-clause-within g c =
     let is = group_map g.E.GroupEntry.leaf c.args.starts.now c.args.entries.now s in
     let count : length c.deref_mut.result.now ≡ c.args.others = ap length c.deref_mut.ensures.value ∙ c.loop-s.invariant.1 in
     let starts = c.args.starts.now in
-    let group : List GroupLeaf = map g.E.GroupEntry.leaf (take (slice_index starts (s + 1) - slice_index starts s) (drop (slice_index starts s) c.args.entries.now)) in
+    let group : List GroupLeaf = map g.E.GroupEntry.leaf (take (slice_index starts (s + 1) - slice_index starts s)
+    (drop (slice_index starts s) c.args.entries.now)) in
     subst (λ m. All (λ e. e.other < m) group) (sym count) (subst (All (λ (e : GroupLeaf). e.other < c.args.others)) (sym is) (c.requires.groups.within s low))
 
 pub merge_group-requires-clause-light : goal.merge_group-requires-clause-light

@@ -12,7 +12,8 @@ returns-clause-here g c =
     let read = get_or-map g.R.Row.amount c.args.rows.now c.args.row c.index-rows-row.result (pos 0) c.requires.inside in
     ap (λ ws. amount_of ws c.args.row) (map-set g.R.Row.amount c.args.rows.now c.args.row c.plus_product.result)
     ∙ get_or-set_same rows c.args.row (g.R.Row.amount c.plus_product.result) (pos 0) inside
-    ∙ c.plus_product.ensures ∙ ap (λ w. g.R.Row.amount (get_or c.args.rows.now c.args.row c.index-rows-row.result) +ℤ (w *ℤ pos c.args.n)) (to_z-of_z w64 c.args.w c.ranges.w)
+    ∙ c.plus_product.ensures ∙ ap (λ w. g.R.Row.amount (get_or c.args.rows.now c.args.row c.index-rows-row.result) +ℤ (w *ℤ pos c.args.n))
+    (to_z-of_z w64 c.args.w c.ranges.w)
     ∙ ap (λ v. v +ℤ (c.args.w *ℤ pos c.args.n)) (sym read)
 
 pub returns-clause-others : goal.returns-clause-others

@@ -37,7 +37,8 @@ returns-clause-own g c =
     let gs : List GroupLeaf = map g.E.GroupEntry.leaf c.args.entries.now in
     let count : length (map g.R.Row.amount c.add_groups_in_four.new.own) ≡ sequence_count form.sets_one =
     length-map c.add_groups_in_four.new.own g.R.Row.amount ∙ c.add_groups_in_four.auto.own ∙ c.requires.rows_one in
-    own_rows g.R.Row.limit starts gs form c.args.input.now.one.now c.args.input.now.two.now c.requires.can (map g.R.Row.amount c.add_groups_in_four.new.own) count
+    own_rows g.R.Row.limit starts gs form c.args.input.now.one.now c.args.input.now.two.now c.requires.can (map g.R.Row.amount c.add_groups_in_four.new.own)
+    count
     (λ s low. c.add_groups_in_four.ensures.sums s (omega (arith, low, count)))
 
 pub returns-clause-other : goal.returns-clause-other
@@ -55,5 +56,6 @@ returns-clause-other g c =
 
 pub cuts_of-cuts-requires : goal.cuts_of-cuts-requires
 cuts_of-cuts-requires g c =
-    let all = all_groups g.R.Row.limit c.args.starts.now (map g.E.GroupEntry.leaf c.args.entries.now) c.args.input.now.form.now c.args.input.now.one.now c.args.input.now.two.now c.requires.can in
+    let all = all_groups g.R.Row.limit c.args.starts.now (map g.E.GroupEntry.leaf c.args.entries.now) c.args.input.now.form.now c.args.input.now.one.now
+    c.args.input.now.two.now c.requires.can in
     omega (arith, c.requires.rows_one, all)

@@ -38,7 +38,18 @@ sum_groups-requires g c κs within =
               (
                 λ s low.
                     subst (λ m. All (λ e. e.other < m) (group_at starts gs s)) (sym numbers) (can.kept.within s (omega (arith, all))),
-                (at_most_greatest x, (omega (arith, low_most), omega (arith, greatest_of_both x, ap (λ k. groups_mass starts gs n * k) (greatest_of_both x), room_for g.R.Row.limit starts gs form x x can _ n (c.requires.zeros 0) all))),
+                (
+                  at_most_greatest x,
+                  (
+                    omega (arith, low_most),
+                    omega (
+                      arith,
+                      greatest_of_both x,
+                      ap (λ k. groups_mass starts gs n * k) (greatest_of_both x),
+                      room_for g.R.Row.limit starts gs form x x can _ n (c.requires.zeros 0) all,
+                    ),
+                  ),
+                ),
               ),
             ),
           ),
@@ -71,7 +82,18 @@ spread_groups-requires g c κs within =
               (
                 λ s low.
                     subst (λ m. All (λ e. e.other < m) (group_at starts gs s)) (sym count) (can.kept.within s (omega (arith, all))),
-                (at_most_greatest x, (omega (arith, low_most), λ b. omega (arith, greatest_of_both x, ap (λ k. groups_mass starts gs n * k) (greatest_of_both x), room_for g.R.Row.limit starts gs form x x can _ n (c.requires.zeros b) all))),
+                (
+                  at_most_greatest x,
+                  (
+                    omega (arith, low_most),
+                    λ b. omega (
+                      arith,
+                      greatest_of_both x,
+                      ap (λ k. groups_mass starts gs n * k) (greatest_of_both x),
+                      room_for g.R.Row.limit starts gs form x x can _ n (c.requires.zeros b) all,
+                    ),
+                  ),
+                ),
               ),
             ),
           ),

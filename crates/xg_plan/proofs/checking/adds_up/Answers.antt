@@ -6,7 +6,8 @@ use Rattle.xg_plan.proofs.checking.adds_up.Goals as goal
 
 pub returns : goal.returns
 returns c =
-    let known = is_placed_as (player_sets c.args.form.now c.args.player) (c.args.set - 1) _ _ _ c.place_of-h.ensures.place c.place_of-h.ensures.inside c.place_of-h.ensures.some c.place_of-h.ensures.earlier in
+    let known = is_placed_as (player_sets c.args.form.now c.args.player) (c.args.set - 1) _ _ _ c.place_of-h.ensures.place c.place_of-h.ensures.inside
+    c.place_of-h.ensures.some c.place_of-h.ensures.earlier in
     λ d.
     let sum = c.total.ensures ∙ part_sum (player_sets c.args.form.now c.args.player) c.args.weights.now (c.args.set - 1) _ _ _ known c.requires.as_many d in
     let before = ap (λ (h : PlacedSet). slice_index c.args.weights.now h.before) (known.is d) in

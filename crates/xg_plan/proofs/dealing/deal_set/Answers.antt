@@ -12,4 +12,5 @@ returns-clause-earlier c =
 
 pub returns-clause-dealt : goal.returns-clause-dealt
 returns-clause-dealt c =
-    block_deals c.args.units.now c.args.weights.now c.deal_by_play.new.out _ _ c.args.place.first c.args.place.actions c.requires.inside c.requires.as_many c.deal_by_play.ensures
+    block_deals c.args.units.now c.args.weights.now c.deal_by_play.new.out _ _ c.args.place.first c.args.place.actions c.requires.inside c.requires.as_many
+    c.deal_by_play.ensures

@@ -19,7 +19,12 @@ returns c =
     let low' : 1 < length one_set = omega arith in
     let first : get_or (set one_set 1 (n - q)) 0 0 ≡ q = get_or-set_other one_set 1 0 (n - q) 0 apart ∙ get_or-set_same out 0 q 0 low in
     let second : get_or (set one_set 1 (n - q)) 1 0 ≡ n - q = get_or-set_same one_set 1 (n - q) 0 low' in
-    let small : get_or c.args.units.now 0 0 ≤ 65536 = omega (arith, prefix-more c.args.units.now 0 (omega arith), prefix-within c.args.units.now (0 + 1), c.requires.whole) in
+    let small : get_or c.args.units.now 0 0 ≤ 65536 = omega (
+      arith,
+      prefix-more c.args.units.now 0 (omega arith),
+      prefix-within c.args.units.now (0 + 1),
+      c.requires.whole,
+    ) in
     let within : q ≤ n = omega (arith, quotient_within n (get_or c.args.units.now 0 0) 65536 (omega arith) small, c.part-first.ensures) in
     two_shares n q c.args.units.now (set one_set 1 (n - q)) (omega arith) both (omega (arith, c.requires.whole)) first (omega (arith, second, within))
     (c.part-first.ensures ∙ ap (λ sum. n * get_or c.args.units.now 0 0 / sum) (sym c.requires.whole))

@@ -15,7 +15,8 @@ add_worth-requires-clause-small c =
     let ws : List ℤ = c.args.into.now.worths in
     let best : ℕ = c.best_sequence-best.result in
     let place = c.place_of-h in
-    let is : placed_of_row place.result ≡ h = place_is (player_sets c.args.form.now c.args.player) c.args.set c.requires.from_one c.requires.there (placed_of_row place.result) place.ensures.place in
+    let is : placed_of_row place.result ≡ h = place_is (player_sets c.args.form.now c.args.player) c.args.set c.requires.from_one c.requires.there
+    (placed_of_row place.result) place.ensures.place in
     let b = c.best_sequence-best.ensures in
     let reply =
     reply_of_set c.args.player (amount_of ws) h place.result.first place.result.actions best (ap (λ (p : PlacedSet). p.first) is)
@@ -31,7 +32,8 @@ pub returns-clause-sets : goal.returns-clause-sets
 returns-clause-sets c =
     let h : PlacedSet = placed_set (player_sets c.args.form.now c.args.player) c.args.set in
     let place = c.place_of-h in
-    let is : placed_of_row place.result ≡ h = place_is (player_sets c.args.form.now c.args.player) c.args.set c.requires.from_one c.requires.there (placed_of_row place.result) place.ensures.place in
+    let is : placed_of_row place.result ≡ h = place_is (player_sets c.args.form.now c.args.player) c.args.set c.requires.from_one c.requires.there
+    (placed_of_row place.result) place.ensures.place in
     let b = c.best_sequence-best.ensures in
     ap (λ q. q.sets) c.add_worth.ensures.reply ∙ c.put_choice.ensures.sets
     ∙ ap (set c.args.into.now.reply.sets (c.args.set - 1))
@@ -44,7 +46,8 @@ returns-clause-worths c =
     let ws : List ℤ = c.args.into.now.worths in
     let best : ℕ = c.best_sequence-best.result in
     let place = c.place_of-h in
-    let is : placed_of_row place.result ≡ h = place_is (player_sets c.args.form.now c.args.player) c.args.set c.requires.from_one c.requires.there (placed_of_row place.result) place.ensures.place in
+    let is : placed_of_row place.result ≡ h = place_is (player_sets c.args.form.now c.args.player) c.args.set c.requires.from_one c.requires.there
+    (placed_of_row place.result) place.ensures.place in
     let b = c.best_sequence-best.ensures in
     let reply =
     reply_of_set c.args.player (amount_of ws) h place.result.first place.result.actions best (ap (λ (p : PlacedSet). p.first) is)

@@ -13,7 +13,8 @@ returns-then-is_negative-clause-err c =
     let ps : List Fraction = probabilities (tables_of game) c.args.set in
     let there : c.loop-action.action < length ps =
     omega (arith, c.loop-action-test.true, c.action_count-action-end.ensures, probabilities_count game c.args.set c.requires.from_one c.requires.there) in
-    let read : slice_get ps (c.loop-action.action + 1 - 1) ≡ Some c.chance.result = probability_read game c.args.set (c.loop-action.action + 1 - 1) c.chance.result c.requires.from_one c.requires.there c.chance.ensures in
+    let read : slice_get ps (c.loop-action.action + 1 - 1) ≡ Some c.chance.result = probability_read game c.args.set (c.loop-action.action + 1 - 1)
+    c.chance.result c.requires.from_one c.requires.there c.chance.ensures in
     ap (λ b. as_file_fault (passing (not b) (ChanceNegative c.args.node) None))
     (c.loop-action.invariant ∙ sign_more ps c.loop-action.action c.chance.result true read there (sym c.is_negative.ensures ∙ c.if-is_negative.true))
 
@@ -23,5 +24,6 @@ loop-action-preserved c =
     let ps : List Fraction = probabilities (tables_of game) c.args.set in
     let there : c.loop-action.action < length ps =
     omega (arith, c.loop-action-test.true, c.action_count-action-end.ensures, probabilities_count game c.args.set c.requires.from_one c.requires.there) in
-    let read : slice_get ps (c.loop-action.action + 1 - 1) ≡ Some c.chance.result = probability_read game c.args.set (c.loop-action.action + 1 - 1) c.chance.result c.requires.from_one c.requires.there c.chance.ensures in
+    let read : slice_get ps (c.loop-action.action + 1 - 1) ≡ Some c.chance.result = probability_read game c.args.set (c.loop-action.action + 1 - 1)
+    c.chance.result c.requires.from_one c.requires.there c.chance.ensures in
     c.loop-action.invariant ∙ sign_more ps c.loop-action.action c.chance.result false read there (sym c.is_negative.ensures ∙ c.if-is_negative.false)

@@ -6,4 +6,5 @@ use Rattle.def_game_scale.specs.Tables.{probabilities}
 use Rattle.xg_scale.proofs.chance.check_signs.Given as goal
 
 abbrev pub invariant-loop-action : goal.invariant-loop-action
-invariant-loop-action l = list_any is_negative (probabilities (tables_of l.game) l.set) ≡ list_any is_negative (drop l.action (probabilities (tables_of l.game) l.set))
+invariant-loop-action l = list_any is_negative (probabilities (tables_of l.game) l.set)
+    ≡ list_any is_negative (drop l.action (probabilities (tables_of l.game) l.set))

@@ -16,8 +16,14 @@ returns-in_default-clause-err c =
     let n : ℕ = c.args.node in
     let i : ℕ = c.loop-action.action in
     let sum : Fraction = sum_of c.loop-action.sum c.chance.result in
-    let there : i < length ps = omega (arith, c.loop-action-test.true, c.action_count-action-end.ensures, probabilities_count game c.args.set c.requires.from_one c.requires.there) in
-    let read : slice_get ps (i + 1 - 1) ≡ Some c.chance.result = probability_read game c.args.set (i + 1 - 1) c.chance.result c.requires.from_one c.requires.there c.chance.ensures in
+    let there : i < length ps = omega (
+      arith,
+      c.loop-action-test.true,
+      c.action_count-action-end.ensures,
+      probabilities_count game c.args.set c.requires.from_one c.requires.there,
+    ) in
+    let read : slice_get ps (i + 1 - 1) ≡ Some c.chance.result = probability_read game c.args.set (i + 1 - 1) c.chance.result c.requires.from_one
+    c.requires.there c.chance.ensures in
     ap as_file_fault
     (c.loop-action.invariant ∙ sum_more n c.loop-action.sum ps i c.chance.result read there
     ∙ not_passed (fits sum) (Scale n) (adding_fault n sum (drop (i + 1) ps)) (Scale n) (false_from_ne_true (fits sum) c.in_default.ensures) refl)
@@ -29,7 +35,14 @@ loop-action-preserved c =
     let n : ℕ = c.args.node in
     let i : ℕ = c.loop-action.action in
     let sum : Fraction = sum_of c.loop-action.sum c.chance.result in
-    let there : i < length ps = omega (arith, c.loop-action-test.true, c.action_count-action-end.ensures, probabilities_count game c.args.set c.requires.from_one c.requires.there) in
-    let read : slice_get ps (i + 1 - 1) ≡ Some c.chance.result = probability_read game c.args.set (i + 1 - 1) c.chance.result c.requires.from_one c.requires.there c.chance.ensures in
+    let there : i < length ps = omega (
+      arith,
+      c.loop-action-test.true,
+      c.action_count-action-end.ensures,
+      probabilities_count game c.args.set c.requires.from_one c.requires.there,
+    ) in
+    let read : slice_get ps (i + 1 - 1) ≡ Some c.chance.result = probability_read game c.args.set (i + 1 - 1) c.chance.result c.requires.from_one
+    c.requires.there c.chance.ensures in
     c.loop-action.invariant ∙ sum_more n c.loop-action.sum ps i c.chance.result read there
-    ∙ passed (fits sum) (Scale n) (adding_fault n sum (drop (i + 1) ps)) c.in-Ok.ensures.0 ∙ ap (λ s. adding_fault n s (drop (i + 1) ps)) (sym c.in-Ok.ensures.1)
+    ∙ passed (fits sum) (Scale n) (adding_fault n sum (drop (i + 1) ps)) c.in-Ok.ensures.0
+    ∙ ap (λ s. adding_fault n s (drop (i + 1) ps)) (sym c.in-Ok.ensures.1)

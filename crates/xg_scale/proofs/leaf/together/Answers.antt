@@ -11,5 +11,6 @@ returns-then-are_opposite c =
     let sum : Fraction = sum_of c.args.a c.args.b in
     let known : sum_of c.known-a.result c.known-b.result ≡ sum = λ i. sum_of (c.known-a.ensures.same i) (c.known-b.ensures.same i) in
     let same : sum ≡ zero_fraction =
-    is_nothing sum (lowest-sum c.args.a c.args.b c.known-a.ensures.lowest.positive c.known-b.ensures.lowest.positive) (ap is_zero (sym known) ∙ opposite_sum c.known-a.result c.known-b.result opposite.0 opposite.1) in
+    is_nothing sum (lowest-sum c.args.a c.args.b c.known-a.ensures.lowest.positive c.known-b.ensures.lowest.positive)
+    (ap is_zero (sym known) ∙ opposite_sum c.known-a.result c.known-b.result opposite.0 opposite.1) in
     (subst (λ f. IsTrue (fits f)) (sym same) refl, c.zero.ensures ∙ sym same)

@@ -13,12 +13,14 @@ pub returns-in-Some-clause-err : goal.returns-in-Some-clause-err
 returns-in-Some-clause-err c =
     let visitor = c.walk.new.visitor in
     let walk = whole_walk c.args.game.now c.requires c.tree.ensures.whole c.in_ok-visitor.visitor c.in_ok-visitor.ensures in
-    let ends = walk.ends visitor (subst (λ tree. Leads MayEnter Enters MayLeave Leaves (events tree) c.in_ok-visitor.visitor visitor) c.tree.ensures.tree c.walk.ensures) in
+    let ends = walk.ends visitor (subst (λ tree. Leads MayEnter Enters MayLeave Leaves (events tree) c.in_ok-visitor.visitor visitor) c.tree.ensures.tree
+    c.walk.ensures) in
     ends_refused c.args.game.now c.requires c.tree.ensures.whole visitor c.in-Some.refused ends c.in-Some.is
 
 pub returns-in-None-clause-ok : goal.returns-in-None-clause-ok
 returns-in-None-clause-ok c =
     let visitor = c.walk.new.visitor in
     let walk = whole_walk c.args.game.now c.requires c.tree.ensures.whole c.in_ok-visitor.visitor c.in_ok-visitor.ensures in
-    let ends = walk.ends visitor (subst (λ tree. Leads MayEnter Enters MayLeave Leaves (events tree) c.in_ok-visitor.visitor visitor) c.tree.ensures.tree c.walk.ensures) in
+    let ends = walk.ends visitor (subst (λ tree. Leads MayEnter Enters MayLeave Leaves (events tree) c.in_ok-visitor.visitor visitor) c.tree.ensures.tree
+    c.walk.ensures) in
     ends_expected c.args.game.now c.requires c.tree.ensures.whole visitor ends c.in-None.is

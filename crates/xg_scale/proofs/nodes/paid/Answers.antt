@@ -12,7 +12,8 @@ pub returns-then-outcome-eq0 : goal.returns-then-outcome-eq0
 returns-then-outcome-eq0 c =
     let so_far = c.known-so_far.ensures in
     let none = ap (λ n. paid_to c.args.player (payoffs_of (tables_of c.args.game.now) n)) c.if-outcome-eq0.true ∙ paid_null c.args.game.now c.args.player in
-    let same : sum_of c.args.so_far (paid_to c.args.player (payoffs_of (tables_of c.args.game.now) c.args.outcome)) ≡ c.args.so_far = ap (sum_of c.args.so_far) none ∙ sum_nothing c.args.so_far so_far.lowest in
+    let same : sum_of c.args.so_far (paid_to c.args.player (payoffs_of (tables_of c.args.game.now) c.args.outcome))
+    ≡ c.args.so_far = ap (sum_of c.args.so_far) none ∙ sum_nothing c.args.so_far so_far.lowest in
     (subst (λ (f : Fraction). IsTrue (fits f)) (sym same) so_far.small, so_far.same ∙ sym same)
 
 pub returns-then-is_zero : goal.returns-then-is_zero
@@ -21,11 +22,13 @@ returns-then-is_zero c =
     let payoff = c.known.ensures in
     let pay = c.payoff-payoff.ensures ∙ paid_is c.args.game.now c.args.player c.args.outcome c.requires in
     let zero : is_zero c.args.so_far ≡ true = ap is_zero (sym so_far.same) ∙ sym c.is_zero.ensures ∙ c.if-is_zero.true in
-    let same : sum_of c.args.so_far (paid_to c.args.player (payoffs_of (tables_of c.args.game.now) c.args.outcome)) ≡ c.payoff-payoff.result = ap (sum_of c.args.so_far) (sym pay) ∙ nothing_more c.args.so_far c.payoff-payoff.result so_far.lowest payoff.lowest zero in
+    let same : sum_of c.args.so_far (paid_to c.args.player (payoffs_of (tables_of c.args.game.now) c.args.outcome))
+    ≡ c.payoff-payoff.result = ap (sum_of c.args.so_far) (sym pay) ∙ nothing_more c.args.so_far c.payoff-payoff.result so_far.lowest payoff.lowest zero in
     (subst (λ (f : Fraction). IsTrue (fits f)) (sym same) payoff.small, payoff.same ∙ sym same)
 
 pub returns : goal.returns
 returns c =
     let pay = c.payoff-payoff.ensures ∙ paid_is c.args.game.now c.args.player c.args.outcome c.requires in
-    let sums : sum_of c.known-so_far.result c.payoff-payoff.result ≡ sum_of c.args.so_far (paid_to c.args.player (payoffs_of (tables_of c.args.game.now) c.args.outcome)) = λ i. sum_of (c.known-so_far.ensures.same i) (pay i) in
+    let sums : sum_of c.known-so_far.result c.payoff-payoff.result ≡ sum_of c.args.so_far
+    (paid_to c.args.player (payoffs_of (tables_of c.args.game.now) c.args.outcome)) = λ i. sum_of (c.known-so_far.ensures.same i) (pay i) in
     subst (λ (f : Fraction). OkIff c.add.result (IsTrue (fits f)) f) sums c.add.ensures

@@ -12,6 +12,7 @@ returns-in-Some c = λ payoffs is.
     let greatest = c.known-in-Some.ensures in (
       least_more payoffs c.known.result c.args.payoff c.lesser.result (subst (λ (f : Fraction). 1 ≤ f.den) (sym least.same) least.lowest.positive)
           (subst (IsLeast payoffs) (sym least.same) so_far.0) c.lesser.ensures.one c.lesser.ensures.first c.lesser.ensures.second,
-      greatest_more payoffs c.known-in-Some.result c.args.payoff c.greater.result (subst (λ (f : Fraction). 1 ≤ f.den) (sym greatest.same) greatest.lowest.positive)
+      greatest_more payoffs c.known-in-Some.result c.args.payoff c.greater.result
+          (subst (λ (f : Fraction). 1 ≤ f.den) (sym greatest.same) greatest.lowest.positive)
           (subst (IsGreatest payoffs) (sym greatest.same) so_far.1) c.greater.ensures.one c.greater.ensures.first c.greater.ensures.second,
     )

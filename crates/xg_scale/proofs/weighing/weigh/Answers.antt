@@ -1,14 +1,17 @@
-use Rattle.xg_scale.proofs.WordLemmas.{answer_count, answer_leaves, answer_least, answer_passes, answer_sound, answer_unit, fault_answered, first_answered, weights_answered}
+use Rattle.xg_scale.proofs.WordLemmas.{answer_count, answer_leaves, answer_least, answer_passes, answer_sound, answer_unit, fault_answered, first_answered}
+use Rattle.xg_scale.proofs.WordLemmas.{weights_answered}
 use Rattle.xg_scale.proofs.weighing.weigh.Goals as goal
 
 pub returns-clause-first : goal.returns-clause-first
 returns-clause-first c = λ fault is. first_answered c.args.game.now c.weigh_exactly.ensures.lowest c.weigh_exactly.result fault c.weigh_exactly.ensures.exact is
 
 pub returns-clause-faults : goal.returns-clause-faults
-returns-clause-faults c = λ fault first. fault_answered c.args.game.now c.weigh_exactly.ensures.lowest c.weigh_exactly.result fault c.weigh_exactly.ensures.exact first
+returns-clause-faults c = λ fault first. fault_answered c.args.game.now c.weigh_exactly.ensures.lowest c.weigh_exactly.result fault
+    c.weigh_exactly.ensures.exact first
 
 pub returns-clause-weighed : goal.returns-clause-weighed
-returns-clause-weighed c = λ weights passes are. weights_answered c.args.game.now c.weigh_exactly.ensures.lowest c.weigh_exactly.result weights c.weigh_exactly.ensures.exact passes are
+returns-clause-weighed c = λ weights passes are. weights_answered c.args.game.now c.weigh_exactly.ensures.lowest c.weigh_exactly.result weights
+    c.weigh_exactly.ensures.exact passes are
 
 pub returns-clause-faultless : goal.returns-clause-faultless
 returns-clause-faultless c = answer_passes c.args.game.now c.weigh_exactly.ensures.lowest c.weigh_exactly.result c.weigh_exactly.ensures.exact

@@ -16,7 +16,8 @@ invariant_of-result g c =
     let kept = c.in_ok-groups.ensures.keeps in
     let keeps =
     subst (λ es. KeepsGroups starts es c.sequence_count.result c.args.mass) (sym c.in_ok-pack.ensures.leaves)
-    (subst (λ n. KeepsGroups starts entries n c.args.mass) (sym c.sequence_count.ensures.count) (subst (KeepsGroups starts entries (sequence_count c.args.form.now.sets_two)) (sym c.requires.mass) kept)) in
+    (subst (λ n. KeepsGroups starts entries n c.args.mass) (sym c.sequence_count.ensures.count)
+    (subst (KeepsGroups starts entries (sequence_count c.args.form.now.sets_two)) (sym c.requires.mass) kept)) in
     (keeps, c.in_ok-pack.ensures.smallest, subst (AreMergedGroups starts) (sym c.in_ok-pack.ensures.leaves) c.in_ok-groups.ensures.merged)
 
 pub returns-clause-weights : goal.returns-clause-weights

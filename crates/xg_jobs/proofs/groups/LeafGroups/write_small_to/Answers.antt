@@ -10,7 +10,8 @@ write_small_rows-requires-clause-fits c =
     let x = c.args.input.now.one.now in
     let y = c.args.input.now.two.now in
     let groups = c.self.inside in
-    can_write (2 ^ 63) groups.starts.items c.deref.result.now (leaves_of_group groups.entries) (map tiny_leaf c.deref-in-Tiny.result.now) form x y groups.others groups.mass
+    can_write (2 ^ 63) groups.starts.items c.deref.result.now (leaves_of_group groups.entries) (map tiny_leaf c.deref-in-Tiny.result.now) form x y groups.others
+    groups.mass
     c.deref.ensures.value (ap (map tiny_leaf) c.deref-in-Tiny.ensures.value ∙ sym (ap leaves_of_group c.in-Tiny.is))
     (ap (λ (g : GroupedWeights). g.weights) c.self.view_is ∙ c.requires.groups) c.self.invariant.0 c.facts.ensures.sequences
     (c.sums_fit_word.ensures.0 c.if-not-sums_fit_word.false)
@@ -21,7 +22,8 @@ write_small_rows-requires-in-Small-clause-fits c =
     let x = c.args.input.now.one.now in
     let y = c.args.input.now.two.now in
     let groups = c.self.inside in
-    can_write (2 ^ 63) groups.starts.items c.deref-in-Small.result.now (leaves_of_group groups.entries) (map small_leaf c.deref-in-Small-2.result.now) form x y groups.others groups.mass
+    can_write (2 ^ 63) groups.starts.items c.deref-in-Small.result.now (leaves_of_group groups.entries) (map small_leaf c.deref-in-Small-2.result.now) form x y
+    groups.others groups.mass
     c.deref-in-Small.ensures.value (ap (map small_leaf) c.deref-in-Small-2.ensures.value ∙ sym (ap leaves_of_group c.in-Small.is))
     (ap (λ (g : GroupedWeights). g.weights) c.self.view_is ∙ c.requires.groups) c.self.invariant.0 c.facts.ensures.sequences
     (c.sums_fit_word.ensures.0 c.if-not-sums_fit_word.false)
@@ -32,7 +34,8 @@ write_small_rows-requires-in-Wide-clause-fits c =
     let x = c.args.input.now.one.now in
     let y = c.args.input.now.two.now in
     let groups = c.self.inside in
-    can_write (2 ^ 63) groups.starts.items c.deref-in-Wide.result.now (leaves_of_group groups.entries) (map wide_leaf c.deref-in-Wide-2.result.now) form x y groups.others groups.mass
+    can_write (2 ^ 63) groups.starts.items c.deref-in-Wide.result.now (leaves_of_group groups.entries) (map wide_leaf c.deref-in-Wide-2.result.now) form x y
+    groups.others groups.mass
     c.deref-in-Wide.ensures.value (ap (map wide_leaf) c.deref-in-Wide-2.ensures.value ∙ sym (ap leaves_of_group c.in-Wide.is))
     (ap (λ (g : GroupedWeights). g.weights) c.self.view_is ∙ c.requires.groups) c.self.invariant.0 c.facts.ensures.sequences
     (c.sums_fit_word.ensures.0 c.if-not-sums_fit_word.false)

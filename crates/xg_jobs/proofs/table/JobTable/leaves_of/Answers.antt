@@ -6,7 +6,8 @@ use Rattle.xg_jobs.proofs.table.JobTable.leaves_of.Goals as goal
 pub overflow_add-result : goal.overflow_add-result
 overflow_add-result c =
     let P : TableOfJobs → Type 0 = λ t. c.args.job < length t.ranges in
-    let small = first_in_limit c.self.inside.ranges.items c.args.job c.index-range.result.now (subst P (sym c.self.view_is) c.requires) c.index-range.ensures c.self.invariant.inside in
+    let small = first_in_limit c.self.inside.ranges.items c.args.job c.index-range.result.now (subst P (sym c.self.view_is) c.requires) c.index-range.ensures
+    c.self.invariant.inside in
     omega arith
 
 pub returns-clause-leaves : goal.returns-clause-leaves

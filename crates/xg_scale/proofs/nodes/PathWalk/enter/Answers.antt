@@ -10,7 +10,8 @@ returns-clause-ok c = record {
   unit = search rules;
   limit = search rules;
   fractions = search rules;
-  range = subst (λ (numbers : PathNumbers). TakesIn c.args.node numbers c.args.self.now.expected.range c.judge.new.self.range) c.in-Ok.ensures.1 c.in_ok-judge.ensures.range;
+  range = subst (λ (numbers : PathNumbers). TakesIn c.args.node numbers c.args.self.now.expected.range c.judge.new.self.range) c.in-Ok.ensures.1
+      c.in_ok-judge.ensures.range;
   innermost = search rules;
   outer = search rules;
 }

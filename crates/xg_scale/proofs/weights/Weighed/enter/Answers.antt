@@ -16,17 +16,21 @@ pub returns-then-not-is_leaf-clause-ok : goal.returns-then-not-is_leaf-clause-ok
 returns-then-not-is_leaf-clause-ok c =
     let game = c.args.game.now in
     let k = c.args.k in
-    let read : slice_get (prefix game.tree) (k + 1 - 1) ≡ Some c.node.result = ap (λ t. slice_get (prefix t) (k + 1 - 1)) (sym c.tree.ensures.tree) ∙ c.node.ensures in
-    weighed_inner (tables_of game) c.requires.lowest game.tree (tree_rules game c.tree.ensures.whole) k c.requires.there c.node.result read c.args.expected.now c.requires.expected c.args.self.now c.requires.weighed
+    let read : slice_get (prefix game.tree) (k + 1 - 1) ≡ Some c.node.result = ap (λ t. slice_get (prefix t) (k + 1 - 1)) (sym c.tree.ensures.tree)
+    ∙ c.node.ensures in
+    weighed_inner (tables_of game) c.requires.lowest game.tree (tree_rules game c.tree.ensures.whole) k c.requires.there c.node.result read c.args.expected.now
+    c.requires.expected c.args.self.now c.requires.weighed
     (sym c.is_leaf.ensures ∙ c.if-not-is_leaf.true)
 
 pub index-fraction-requires : goal.index-fraction-requires
 index-fraction-requires c =
     let game = c.args.game.now in
     let k = c.args.k in
-    let read : slice_get (prefix game.tree) (k + 1 - 1) ≡ Some c.node.result = ap (λ t. slice_get (prefix t) (k + 1 - 1)) (sym c.tree.ensures.tree) ∙ c.node.ensures in
+    let read : slice_get (prefix game.tree) (k + 1 - 1) ≡ Some c.node.result = ap (λ t. slice_get (prefix t) (k + 1 - 1)) (sym c.tree.ensures.tree)
+    ∙ c.node.ensures in
     let there =
-    fraction_there (tables_of game) c.requires.lowest game.tree (tree_rules game c.tree.ensures.whole) k c.requires.there c.node.result read c.args.expected.now c.requires.expected c.args.self.now c.requires.weighed
+    fraction_there (tables_of game) c.requires.lowest game.tree (tree_rules game c.tree.ensures.whole) k c.requires.there c.node.result read c.args.expected.now
+    c.requires.expected c.args.self.now c.requires.weighed
     (sym c.is_leaf.ensures ∙ c.if-not-is_leaf.false) in
     search (there, rules)
 
@@ -35,13 +39,16 @@ returns-in_default-clause-err c =
     let game = c.args.game.now in
     let k = c.args.k in
     let leaf : is_leaf_kind c.node.result.kind ≡ true = sym c.is_leaf.ensures ∙ c.if-not-is_leaf.false in
-    let read : slice_get (prefix game.tree) (k + 1 - 1) ≡ Some c.node.result = ap (λ t. slice_get (prefix t) (k + 1 - 1)) (sym c.tree.ensures.tree) ∙ c.node.ensures in
+    let read : slice_get (prefix game.tree) (k + 1 - 1) ≡ Some c.node.result = ap (λ t. slice_get (prefix t) (k + 1 - 1)) (sym c.tree.ensures.tree)
+    ∙ c.node.ensures in
     let items = c.args.expected.now.fractions.items in
     let place : length c.args.self.now.leaves.items ≡ c.len.result = omega (arith, c.len.ensures) in
     let pays : expected (tables_of game) (visit_after game.tree k) ≡ c.index-fraction.result.now =
-    fraction_is (tables_of game) c.requires.lowest game.tree (tree_rules game c.tree.ensures.whole) k c.requires.there c.node.result read c.args.expected.now c.requires.expected c.args.self.now c.requires.weighed
+    fraction_is (tables_of game) c.requires.lowest game.tree (tree_rules game c.tree.ensures.whole) k c.requires.there c.node.result read c.args.expected.now
+    c.requires.expected c.args.self.now c.requires.weighed
     leaf c.index-fraction.result.now c.index-fraction.result.now (ap (λ n. get_or items n c.index-fraction.result.now) place ∙ sym c.index-fraction.ensures) in
-    weighed_past (tables_of game) c.requires.lowest game.tree (tree_rules game c.tree.ensures.whole) k c.requires.there c.node.result read c.args.expected.now c.requires.expected c.args.self.now c.requires.weighed
+    weighed_past (tables_of game) c.requires.lowest game.tree (tree_rules game c.tree.ensures.whole) k c.requires.there c.node.result read c.args.expected.now
+    c.requires.expected c.args.self.now c.requires.weighed
     leaf c.index-fraction.result.now pays c.in_default.ensures.err (File (faults.Scale (k + 1))) refl
 
 pub returns-clause-ok : goal.returns-clause-ok
@@ -49,13 +56,17 @@ returns-clause-ok c =
     let game = c.args.game.now in
     let k = c.args.k in
     let leaf : is_leaf_kind c.node.result.kind ≡ true = sym c.is_leaf.ensures ∙ c.if-not-is_leaf.false in
-    let read : slice_get (prefix game.tree) (k + 1 - 1) ≡ Some c.node.result = ap (λ t. slice_get (prefix t) (k + 1 - 1)) (sym c.tree.ensures.tree) ∙ c.node.ensures in
+    let read : slice_get (prefix game.tree) (k + 1 - 1) ≡ Some c.node.result = ap (λ t. slice_get (prefix t) (k + 1 - 1)) (sym c.tree.ensures.tree)
+    ∙ c.node.ensures in
     let items = c.args.expected.now.fractions.items in
     let place : length c.args.self.now.leaves.items ≡ c.len.result = omega (arith, c.len.ensures) in
     let pays : expected (tables_of game) (visit_after game.tree k) ≡ c.index-fraction.result.now =
-    fraction_is (tables_of game) c.requires.lowest game.tree (tree_rules game c.tree.ensures.whole) k c.requires.there c.node.result read c.args.expected.now c.requires.expected c.args.self.now c.requires.weighed
+    fraction_is (tables_of game) c.requires.lowest game.tree (tree_rules game c.tree.ensures.whole) k c.requires.there c.node.result read c.args.expected.now
+    c.requires.expected c.args.self.now c.requires.weighed
     leaf c.index-fraction.result.now c.index-fraction.result.now (ap (λ n. get_or items n c.index-fraction.result.now) place ∙ sym c.index-fraction.ensures) in
     let small : unsigned_abs c.in-Ok.leaf.weight < 2 ^ 63 = omega (arith, c.in-Ok.ensures.limit, ap unsigned_abs c.in-Ok.ensures.ok.weight_is) in
-    weighed_leaf (tables_of game) c.requires.lowest game.tree (tree_rules game c.tree.ensures.whole) k c.requires.there c.node.result read c.args.expected.now c.requires.expected c.args.self.now c.requires.weighed
+    weighed_leaf (tables_of game) c.requires.lowest game.tree (tree_rules game c.tree.ensures.whole) k c.requires.there c.node.result read c.args.expected.now
+    c.requires.expected c.args.self.now c.requires.weighed
     leaf c.index-fraction.result.now pays c.in-Ok.ensures.limit (record { mass = c.in-Ok.leaf.mass; leaves = c.push.new.self }) c.in-Ok.ensures.ok.mass_is
-    (c.in-Ok-push.ensures.items ∙ ap (λ w. c.args.self.now.leaves.items ++ w ∷ []) (to_z-of_z w64 c.in-Ok.leaf.weight (fits_signed_from_abs w64 c.in-Ok.leaf.weight small) ∙ c.in-Ok.ensures.ok.weight_is))
+    (c.in-Ok-push.ensures.items ∙ ap (λ w. c.args.self.now.leaves.items ++ w ∷ [])
+    (to_z-of_z w64 c.in-Ok.leaf.weight (fits_signed_from_abs w64 c.in-Ok.leaf.weight small) ∙ c.in-Ok.ensures.ok.weight_is))
