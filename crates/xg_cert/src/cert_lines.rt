@@ -112,8 +112,8 @@ pub(crate) fn put_value_line<O: Sink>(
     put_whole(choice as u64, b'\n', out)
 }
 
-/// A word, and both ends of a bracket.
-pub(crate) fn put_ends_line<O: Sink>(
+/// Writes a line of a word and both ends of a bracket. After an error a front of it was written.
+pub fn put_ends_line<O: Sink>(
     word: &[u8],
     low: Ratio,
     high: Ratio,

@@ -19,6 +19,7 @@ mod second;
 mod writing;
 
 pub use cert::Cert;
+pub use cert_lines::put_ends_line;
 pub use def_cert_text::{CertFault, TextVersion};
 pub use def_reply::TraceLine as TraceRow;
 pub use head::Head;

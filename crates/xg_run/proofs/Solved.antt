@@ -21,7 +21,7 @@ use Rattle.xg_load.specs.declared.ending.Ending.TheVariants.{Done, Refused, Read
 use Rattle.xg_load.specs.Loads.{Loads, LoadHasCause}
 use Rattle.xg_load.specs.Endings.{IsLineIfRoom, IsUnloaded}
 use Rattle.def_outside.specs.Cause.{HasCause}
-use Rattle.xg_run.specs.Written.{IsEndingOf}
+use Rattle.xg_load.specs.Endings.{IsEndingOf}
 use Rattle.xg_run.specs.Concludes.{Concludes, FileTold, IsCut, IsDone, Tells}
 
 module _ (text : GameFile → List ℕ) (content : Option (List ℕ)) where

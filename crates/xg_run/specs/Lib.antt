@@ -3,5 +3,4 @@ pub mod ChecksEnd
 pub mod RefusalLine
 pub mod Endings
 pub mod Concludes
-pub mod Written
 pub mod Batches

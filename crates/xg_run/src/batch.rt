@@ -15,7 +15,6 @@ ghost use Rattle.xg_run.specs.Concludes.{Concludes, Tells};
 
 use crate::batch_text::{BatchText, parts_of};
 use crate::ending::Ending;
-use crate::playing::ending_of;
 use def_batch::BATCH_ROOM;
 use std::alloc::Global;
 use std::marker::Sync;
@@ -155,5 +154,5 @@ fn write_items<O: Sink>(alloc: Global, items: &[Item], out: &mut O) -> Ending
     };
     let written = write_paged(out, &BatchText { parts: &parts });
     drop(parts);
-    ending_of(written)
+    Ending::of_written(written)
 }

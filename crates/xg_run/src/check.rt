@@ -1,6 +1,5 @@
 //! Checking a certificate, and upgrading one that is accepted.
-ghost use Rattle.std.specs.Prelude.{◌≤◌, ◌++◌, IsTrue, Ok, length};
-ghost use Rattle.def_fraction.specs.Text.{fraction_text};
+ghost use Rattle.std.specs.Prelude.{◌≤◌, IsTrue, Ok, length};
 ghost use Rattle.def_outside.specs.Calls.{OpensAtMost};
 ghost use Rattle.xg_io.specs.Calls.{files_call, sink_call};
 ghost use Rattle.def_outside.specs.Cause.{HasCause};
@@ -20,10 +19,9 @@ use crate::both::read_both;
 use crate::certificate::UpgradedText;
 use crate::check_lines::check_fault_line;
 use crate::ending::Ending;
-use crate::playing::ending_of;
 use std::alloc::Global;
+use xg_cert::put_ends_line;
 use xg_check::{Accepted, Verdict, accept};
-use xg_frac::{Ratio, put_ratio};
 use xg_io::{Files, Sink, WriteFault, write_all, write_paged};
 
 /// What is written of a certificate that is accepted.
@@ -111,7 +109,7 @@ fn check_bytes<O: Sink>(
         Ok(accepted) => {
             let written = write_report(report, &accepted, out);
             drop(accepted);
-            ending_of(written)
+            Ending::of_written(written)
         }
         Err(fault) => Ending::of_line(check_fault_line(alloc, fault)),
     }
@@ -136,79 +134,13 @@ fn write_report<O: Sink>(report: Report, accepted: &Accepted, out: &mut O) -> Re
 }
 
 /// Writes the line of a verdict. After an error a front of it was written.
+#[tactic(auto, unfolding(def_cert_text::specs::Fields::items_text))]
 fn write_verdict<O: Sink>(verdict: Verdict, out: &mut O) -> Result<(), WriteFault>
     ensures text { Writes (O.written out.old) (O.written out.new) (verdict_text (verdict_of verdict)) result }
     ensures cause { HasCause (O.faults out.old) (O.faults out.new) result }
 {
     match verdict {
-        Verdict::HeadOnly => write_two(b"accepted no bounds", b"\n", out),
-        Verdict::Bounds { low, high } => write_words(b"accepted ", low, b" ", high, b"\n", out),
+        Verdict::HeadOnly => write_all(out, b"accepted no bounds\n"),
+        Verdict::Bounds { low, high } => put_ends_line(b"accepted", low, high, out),
     }
-}
-
-/// Writes a word and what ends the line.
-#[tactic(auto, using(xg_io::proofs::Pieces::prefix_first, xg_io::proofs::Pieces::then_rest))]
-fn write_two<O: Sink>(word: &[u8], end: &[u8], out: &mut O) -> Result<(), WriteFault>
-    ensures text { Writes (O.written out.old) (O.written out.new) (word.now ++ end.now) result }
-    ensures cause { HasCause (O.faults out.old) (O.faults out.new) result }
-{
-    write_all(out, word)?;
-    write_all(out, end)
-}
-
-/// Writes a word and both bounds.
-#[tactic(auto, using(xg_io::proofs::Pieces::prefix_first, xg_io::proofs::Pieces::then_rest))]
-fn write_words<O: Sink>(
-    word: &[u8],
-    low: Ratio,
-    between: &[u8],
-    high: Ratio,
-    end: &[u8],
-    out: &mut O,
-) -> Result<(), WriteFault>
-    ensures text { Writes (O.written out.old) (O.written out.new)
-        (word.now ++ (fraction_text low ++ (between.now ++ (fraction_text high ++ end.now)))) result }
-    ensures cause { HasCause (O.faults out.old) (O.faults out.new) result }
-{
-    write_all(out, word)?;
-    write_both_bounds(low, between, high, end, out)
-}
-
-#[tactic(auto, using(xg_io::proofs::Pieces::prefix_first, xg_io::proofs::Pieces::then_rest))]
-fn write_both_bounds<O: Sink>(
-    low: Ratio,
-    between: &[u8],
-    high: Ratio,
-    end: &[u8],
-    out: &mut O,
-) -> Result<(), WriteFault>
-    ensures text { Writes (O.written out.old) (O.written out.new)
-        (fraction_text low ++ (between.now ++ (fraction_text high ++ end.now))) result }
-    ensures cause { HasCause (O.faults out.old) (O.faults out.new) result }
-{
-    put_ratio(low, out)?;
-    write_last_bound(between, high, end, out)
-}
-
-#[tactic(auto, using(xg_io::proofs::Pieces::prefix_first, xg_io::proofs::Pieces::then_rest))]
-fn write_last_bound<O: Sink>(
-    between: &[u8],
-    high: Ratio,
-    end: &[u8],
-    out: &mut O,
-) -> Result<(), WriteFault>
-    ensures text { Writes (O.written out.old) (O.written out.new) (between.now ++ (fraction_text high ++ end.now)) result }
-    ensures cause { HasCause (O.faults out.old) (O.faults out.new) result }
-{
-    write_all(out, between)?;
-    write_bound(high, end, out)
-}
-
-#[tactic(auto, using(xg_io::proofs::Pieces::prefix_first, xg_io::proofs::Pieces::then_rest))]
-fn write_bound<O: Sink>(high: Ratio, end: &[u8], out: &mut O) -> Result<(), WriteFault>
-    ensures text { Writes (O.written out.old) (O.written out.new) (fraction_text high ++ end.now) result }
-    ensures cause { HasCause (O.faults out.old) (O.faults out.new) result }
-{
-    put_ratio(high, out)?;
-    write_all(out, end)
 }

@@ -11,7 +11,7 @@ ghost use Rattle.xg_run.specs.Concludes.{Tells};
 
 use crate::certificate::GameText;
 use crate::ending::Ending;
-use crate::playing::{ending_of, play};
+use crate::playing::play;
 use crate::rows::SharedRows;
 use std::alloc::Global;
 use std::marker::Sync;
@@ -33,7 +33,7 @@ pub fn generate<O: Sink>(alloc: Global, cards: u32, out: &mut O) -> Ending
         Ok(game) => {
             let written = write_paged(out, &GameText { game: &game });
             drop(game);
-            ending_of(written)
+            Ending::of_written(written)
         }
         Err(_) => Ending::NoMemory,
     }

@@ -10,7 +10,6 @@ ghost use Rattle.xg_engine.specs.State.{AreWithinLimitsOf};
 ghost use Rattle.xg_jobs.specs.Rows.{AreNumbersOf, ArePlainSums};
 ghost use Rattle.xg_jobs.specs.Table.{IsTableOf};
 ghost use Rattle.xg_run.specs.Concludes.{Tells};
-ghost use Rattle.xg_run.specs.Written.{IsEndingOf};
 
 use crate::certificate::PlayedText;
 use crate::ending::Ending;
@@ -22,7 +21,7 @@ use std::thread::Threads;
 use xg_board::MadeBy;
 use xg_cert::Outcome;
 use xg_engine::{Engine, Settings, Variant};
-use xg_io::{Gate, Sink, WriteFault, write_paged};
+use xg_io::{Gate, Sink, write_paged};
 use xg_jobs::{JobTable, PlainRows, RowInput, Rows};
 use xg_load::AcceptedGame;
 
@@ -76,7 +75,7 @@ fn play_by<Rt: Threads + Wait + Sync, O: Sink, G: Gate>(
                 form: engine.form(),
                 outcome,
             };
-            ending_of(write_paged(out, &text))
+            Ending::of_written(write_paged(out, &text))
         }
         None => Ending::NoMemory,
     }
@@ -128,15 +127,5 @@ fn write_unplayed<O: Sink>(
         form: numbers.form(),
         outcome: &outcome,
     };
-    ending_of(write_paged(out, &text))
-}
-
-/// The end of a run whose text was written, or cut off.
-pub fn ending_of(written: Result<(), WriteFault>) -> Ending
-    ensures { IsEndingOf written result }
-{
-    match written {
-        Ok(()) => Ending::Done,
-        Err(_) => Ending::WriteFault,
-    }
+    Ending::of_written(write_paged(out, &text))
 }

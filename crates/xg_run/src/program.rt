@@ -17,7 +17,7 @@ use crate::batch::batch;
 use crate::check::{check, upgrade};
 use crate::ending::{Ending, finish};
 use crate::made::{drill, generate};
-use crate::playing::{ending_of, play};
+use crate::playing::play;
 use crate::rows::SharedRows;
 use crate::text::{info_front, write_info};
 use def_sums::MOST_SCALE;
@@ -87,7 +87,7 @@ fn tell<O: Sink>(alloc: Global, accepted: &AcceptedGame, out: &mut O) -> Ending
     let Ok(front) = info_front(alloc, accepted.game()) else {
         return Ending::NoMemory;
     };
-    ending_of(write_info(&front, &accepted.head(NO_ROUNDS), out))
+    Ending::of_written(write_info(&front, &accepted.head(NO_ROUNDS), out))
 }
 
 /// Does what the words say, and says nothing of it, unless they name no command.

@@ -17,7 +17,7 @@ returns g c =
     let are : parts_bytes 1 parts ≡ items_shown 1 c.args.items.now =
     ap (parts_bytes 1) c.deref.ensures.value ∙ parts_bytes_are 1 c.args.items.now c.in-Ok.parts.items c.in-Ok.ensures in
     tells (sink_call g.O.Sink c.args.out.now c.write_paged-written.new.out) (items_shown 1 c.args.items.now)
-    (parts_bytes 1 parts) are c.write_paged-written.result c.ending_of.result c.ending_of.ensures
+    (parts_bytes 1 parts) are c.write_paged-written.result c.of_written.result c.of_written.ensures
     (writes_of (g.O.Sink.written c.args.out.now) (g.O.Sink.written c.write_paged-written.new.out) (parts_bytes 1 parts)
     c.write_paged-written.result c.write_paged-written.ensures.appended c.write_paged-written.ensures.prefix)
     c.write_paged-written.ensures.cause

@@ -8,7 +8,7 @@ use Rattle.xg_run.proofs.made.generate.Goals as goal
 pub returns-in-Ok : goal.returns-in-Ok
 returns-in-Ok g c =
     tells (sink_call g.O.Sink c.args.out.now c.write_paged-written.new.out) (canon (poker c.args.cards))
-    (canon c.in-Ok.game) (ap canon c.in-Ok.ensures) c.write_paged-written.result c.ending_of.result c.ending_of.ensures
+    (canon c.in-Ok.game) (ap canon c.in-Ok.ensures) c.write_paged-written.result c.of_written.result c.of_written.ensures
     (writes_of (g.O.Sink.written c.args.out.now) (g.O.Sink.written c.write_paged-written.new.out) (canon c.in-Ok.game)
     c.write_paged-written.result c.write_paged-written.ensures.appended c.write_paged-written.ensures.prefix)
     c.write_paged-written.ensures.cause

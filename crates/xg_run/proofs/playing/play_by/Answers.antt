@@ -24,7 +24,7 @@ returns-in-Some g c = λ game opened.
     tells (sink_call g.O.Sink c.args.out.now c.write_paged.new.out)
     (played_text variant game settings) (outcome_text variant c.form.result.now c.in-Some.outcome.now)
     (played_is variant game settings c.form.result.now c.in-Some.outcome.now form_is left_is)
-    c.write_paged.result c.ending_of.result c.ending_of.ensures
+    c.write_paged.result c.of_written.result c.of_written.ensures
     (writes_of (g.O.Sink.written c.args.out.now) (g.O.Sink.written c.write_paged.new.out)
     (outcome_text variant c.form.result.now c.in-Some.outcome.now) c.write_paged.result
     c.write_paged.ensures.appended c.write_paged.ensures.prefix)

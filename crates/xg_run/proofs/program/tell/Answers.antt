@@ -11,5 +11,5 @@ returns g c =
     let is : c.deref.result.now ++ head_text (head_of c.head.result) ≡ info_text c.args.accepted.now =
     (λ i. (c.deref.ensures.value ∙ c.in-Ok.ensures ∙ ap info_front c.game.ensures) i ++ head_text (c.head.ensures i)) in
     tells (sink_call g.O.Sink c.args.out.now c.write_info.new.out) (info_text c.args.accepted.now)
-    (c.deref.result.now ++ head_text (head_of c.head.result)) is c.write_info.result c.ending_of.result c.ending_of.ensures
+    (c.deref.result.now ++ head_text (head_of c.head.result)) is c.write_info.result c.of_written.result c.of_written.ensures
     c.write_info.ensures.text c.write_info.ensures.cause
