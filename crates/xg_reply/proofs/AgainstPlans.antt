@@ -4,14 +4,12 @@ use Rattle.def_tree.specs.declared.Player.{Player}
 use Rattle.def_tree.specs.declared.Player.TheVariants.{One, Two}
 use Rattle.def_plan.specs.Form.{AreInOrder, InformationSet, SequenceForm, player_sets}
 use Rattle.def_plan.specs.Payoff.{AgreeOn, leaf_sum}
-use Rattle.def_plan.specs.Plan.{pure_plan}
 use Rattle.def_plan.specs.FormRows.{player_rows, amount_of}
 use Rattle.def_plan.proofs.Rows.{player_rows_are_leaf_sums}
-use Rattle.def_reply.specs.Bounds.{AttainsCeiling, AttainsFloor, IsCeiling, IsFloor}
-use Rattle.def_reply.specs.Reply.{Reply, SetReply, best_reply, best_reply_to, choices_of, total}
+use Rattle.def_reply.specs.Reply.{Reply, SetReply, best_reply, best_reply_to, total}
 use Rattle.def_reply.proofs.BoundLaws.{best_bounds}
 use Rattle.def_reply.proofs.OwnSums.{replies_need_own_sums}
-use Rattle.xg_reply.specs.Replies.{reply_to_sums}
+use Rattle.xg_reply.specs.Replies.{IsAttainedBound, reply_to_sums}
 
 -- the reply to these rows is the best reply to the plan
 pub against_plan : (form : SequenceForm) (player : Player) (plan : List ℕ) (rows : List ℤ)
@@ -29,47 +27,18 @@ against_plan form player plan rows are =
     ∙ replies_need_own_sums.totals (amount_of rows) sums sets best agree in
     λ i. record { total = totals i; sets = replies i }
 
--- the reply to some rows, where these are those against a plan for one player
-module _ (form : SequenceForm) (plan : List ℕ) (rows : List ℤ) (reply : Reply) (player : Player)
-    (order : AreInOrder (player_sets form player))
-    (is : reply ≡ reply_to_sums player (amount_of rows) (player_sets form player)) where
-  abbrev FromReply : Type 0 → Player → Type 0
-  FromReply P p =
-      AreInOrder (player_sets form p) → reply ≡ reply_to_sums p (amount_of rows) (player_sets form p)
-      → rows ≡ player_rows form p plan → P
+-- the total of the best reply to a plan is its attained floor or ceiling
+best_bound : (form : SequenceForm) (player : Player) (plan : List ℕ) → AreInOrder (player_sets form player)
+    → IsAttainedBound player form plan (best_reply_to form player plan)
+best_bound form One plan order =
+    record { bound = best_bounds.ceiling form plan order; attained = best_bounds.ceiling_attained form plan order }
+best_bound form Two plan order =
+    record { bound = best_bounds.floor form plan order; attained = best_bounds.floor_attained form plan order }
 
-  at_player : (P : Type 0) (p : Player) → player ≡ p → rows ≡ player_rows form p plan → FromReply P p → P
-  at_player P p same are shows =
-      subst (FromReply P) (sym same) shows order is (subst (λ q. rows ≡ player_rows form q plan) (sym same) are)
-
-  -- player two's total is an attained floor of the plan
-  pub is_floor : player ≡ Two → rows ≡ player_rows form Two plan → IsFloor form plan reply.total
-  is_floor two are =
-      let P : Reply → Type 0 = λ q. IsFloor form plan q.total in
-      at_player (P reply) Two two are
-      (λ order is are. subst P (sym (is ∙ against_plan form Two plan rows are)) (best_bounds.floor form plan order))
-
-  -- player two's choices are a plan of root 1 under which the plan's payoff is that floor
-  pub attains_floor : player ≡ Two → rows ≡ player_rows form Two plan
-      → AttainsFloor form plan reply.total (pure_plan form.sets_two (choices_of reply.sets))
-  attains_floor two are =
-      let P : Reply → Type 0 = λ q. AttainsFloor form plan q.total (pure_plan form.sets_two (choices_of q.sets)) in
-      at_player (P reply) Two two are
-      (λ order is are.
-      subst P (sym (is ∙ against_plan form Two plan rows are)) (best_bounds.floor_attained form plan order))
-
-  -- player one's total is an attained ceiling of the plan
-  pub is_ceiling : player ≡ One → rows ≡ player_rows form One plan → IsCeiling form plan reply.total
-  is_ceiling one are =
-      let P : Reply → Type 0 = λ q. IsCeiling form plan q.total in
-      at_player (P reply) One one are
-      (λ order is are. subst P (sym (is ∙ against_plan form One plan rows are)) (best_bounds.ceiling form plan order))
-
-  -- player one's choices are a plan of root 1 under which the plan's payoff is that ceiling
-  pub attains_ceiling : player ≡ One → rows ≡ player_rows form One plan
-      → AttainsCeiling form plan reply.total (pure_plan form.sets_one (choices_of reply.sets))
-  attains_ceiling one are =
-      let P : Reply → Type 0 = λ q. AttainsCeiling form plan q.total (pure_plan form.sets_one (choices_of q.sets)) in
-      at_player (P reply) One one are
-      (λ order is are.
-      subst P (sym (is ∙ against_plan form One plan rows are)) (best_bounds.ceiling_attained form plan order))
+-- so it is of the reply to rows that are those against the plan
+pub is_attained_bound : (form : SequenceForm) (player : Player) (plan : List ℕ) (rows : List ℤ) (reply : Reply)
+    → AreInOrder (player_sets form player) → reply ≡ reply_to_sums player (amount_of rows) (player_sets form player)
+    → rows ≡ player_rows form player plan → IsAttainedBound player form plan reply
+is_attained_bound form player plan rows reply order is are =
+    subst (IsAttainedBound player form plan) (sym (is ∙ against_plan form player plan rows are))
+    (best_bound form player plan order)

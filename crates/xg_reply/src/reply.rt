@@ -1,15 +1,13 @@
 //! The best reply to a plan.
 ghost use Rattle.std.specs.Prelude.{◌≡◌, ℕ, ◌<◌, ◌≤◌, List, length, map, pos, ◌*ℤ◌, unsigned_abs};
 ghost use Rattle.def_sums.specs.Limits.{most_row};
-ghost use Rattle.def_tree.specs.declared.Player.TheVariants.{One, Two};
 ghost use Rattle.def_sums.specs.Sum.{nat_sum_over};
 ghost use Rattle.def_plan.specs.Form.{AreInOrder, placed, player_sets, sequence_count, sequences};
 ghost use Rattle.def_plan.specs.Payoff.{IsNoBetter, gain, worth};
 ghost use Rattle.def_plan.specs.Plan.{IsPlan, pure_plan};
 ghost use Rattle.def_plan.specs.FormRows.{player_rows, amount_of};
-ghost use Rattle.def_reply.specs.Bounds.{AttainsCeiling, AttainsFloor, IsCeiling, IsFloor};
 ghost use Rattle.def_reply.specs.Reply.{best_reply_to, choices_of, values_of};
-ghost use Rattle.xg_reply.specs.Replies.{reply_to_sums};
+ghost use Rattle.xg_reply.specs.Replies.{IsAttainedBound, reply_to_sums};
 ghost use Rattle.xg_seq.specs.Table.{most_sequences};
 
 use crate::sets::put_reply;
@@ -46,16 +44,8 @@ pub fn best_reply(form: &SeqForm, player: Player, rows: &[i128], into: &mut Repl
     // Against a plan whose leaf sums the rows are.
     ensures against { (plan : List ℕ) → rows.now ≡ player_rows form.now player plan
         → into.new.reply ≡ best_reply_to form.now player plan }
-    ensures floor { (plan : List ℕ) → player ≡ Two → rows.now ≡ player_rows form.now Two plan
-        → IsFloor form.now plan into.new.reply.total }
-    ensures floor_attained { (plan : List ℕ) → player ≡ Two → rows.now ≡ player_rows form.now Two plan
-        → AttainsFloor form.now plan into.new.reply.total
-        (pure_plan form.now.sets_two (choices_of into.new.reply.sets)) }
-    ensures ceiling { (plan : List ℕ) → player ≡ One → rows.now ≡ player_rows form.now One plan
-        → IsCeiling form.now plan into.new.reply.total }
-    ensures ceiling_attained { (plan : List ℕ) → player ≡ One → rows.now ≡ player_rows form.now One plan
-        → AttainsCeiling form.now plan into.new.reply.total
-        (pure_plan form.now.sets_one (choices_of into.new.reply.sets)) }
+    ensures bounds { (plan : List ℕ) → rows.now ≡ player_rows form.now player plan
+        → IsAttainedBound player form.now plan into.new.reply }
 {
     put_rows(form, player, rows, into);
     for k in (0..form.set_count(player)).rev() {

@@ -6,7 +6,7 @@ use Rattle.def_reply.specs.Reply.{Reply, choices_of}
 use Rattle.def_reply.proofs.BoundLaws.{best_optimal}
 use Rattle.xg_reply.specs.Replies.{reply_to_sums}
 use Rattle.xg_reply.proofs.Passes.{passed-more, passed-none, passed-reply, passed-worths, sizes_of_rows, sum_small}
-use Rattle.xg_reply.proofs.AgainstPlans.{against_plan, attains_ceiling, attains_floor, is_ceiling, is_floor}
+use Rattle.xg_reply.proofs.AgainstPlans.{against_plan, is_attained_bound}
 use Rattle.xg_reply.proofs.reply.best_reply.Goals as goal
 use Rattle.def_plan.specs.FormRows.{amount_of}
 
@@ -82,22 +82,7 @@ pub returns-clause-against : goal.returns-clause-against
 returns-clause-against c plan are =
     whole c ∙ against_plan c.args.form.now c.args.player plan c.args.rows.now are
 
-pub returns-clause-floor : goal.returns-clause-floor
-returns-clause-floor c plan two are =
-    is_floor c.args.form.now plan c.args.rows.now c.put_total.new.into.reply c.args.player c.put_rows.ensures.order
-    (whole c) two are
-
-pub returns-clause-floor_attained : goal.returns-clause-floor_attained
-returns-clause-floor_attained c plan two are =
-    attains_floor c.args.form.now plan c.args.rows.now c.put_total.new.into.reply c.args.player
-    c.put_rows.ensures.order (whole c) two are
-
-pub returns-clause-ceiling : goal.returns-clause-ceiling
-returns-clause-ceiling c plan one are =
-    is_ceiling c.args.form.now plan c.args.rows.now c.put_total.new.into.reply c.args.player c.put_rows.ensures.order
-    (whole c) one are
-
-pub returns-clause-ceiling_attained : goal.returns-clause-ceiling_attained
-returns-clause-ceiling_attained c plan one are =
-    attains_ceiling c.args.form.now plan c.args.rows.now c.put_total.new.into.reply c.args.player
-    c.put_rows.ensures.order (whole c) one are
+pub returns-clause-bounds : goal.returns-clause-bounds
+returns-clause-bounds c plan are =
+    is_attained_bound c.args.form.now c.args.player plan c.args.rows.now c.put_total.new.into.reply
+    c.put_rows.ensures.order (whole c) are
