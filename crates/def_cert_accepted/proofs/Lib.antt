@@ -1,3 +1,5 @@
 pub mod OfRun
 pub mod Accepted
 pub mod Fits
+pub mod Bounds
+pub mod Outcomes

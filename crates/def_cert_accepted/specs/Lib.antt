@@ -1,2 +1,4 @@
 pub mod OfOutcome
+pub mod Bounds
+pub mod Writable
 pub mod Laws

@@ -7,7 +7,7 @@ use Rattle.def_fraction.specs.Fraction.{Fraction, fraction_of}
 use Rattle.def_fraction.specs.Laws.{HasValue, ReducesExactly}
 use Rattle.def_fraction.proofs.FractionLemmas.{fraction_of-reduced}
 use Rattle.def_fraction.proofs.OrderLemmas.{times-times, times_turned}
-use Rattle.def_program.specs.Bounds.{difference}
+use Rattle.def_cert_accepted.specs.Bounds.{difference}
 use Rattle.def_close.specs.Laws.{NarrowTotalsAreNarrow}
 use Rattle.def_close.specs.Narrow.{AreAsNarrow, IsAsNarrow}
 

@@ -24,7 +24,7 @@ use Rattle.def_check.proofs.Checked.{checks_are}
 use Rattle.def_check.proofs.InNumbers.{faultless_game, sets_in_order}
 use Rattle.def_command.specs.GrammarLaws.{InRange}
 use Rattle.def_game_numbers.specs.Weighed.{weighed_game}
-use Rattle.def_program.specs.Bounds.{BoundsHold}
+use Rattle.def_cert_accepted.specs.Bounds.{BoundsHold}
 use Rattle.def_program.specs.Checked.{HoldsOfFile}
 use Rattle.def_program.specs.Text.{form_of_file, game_head}
 use Rattle.def_program.proofs.Checked.{certificates_hold}

@@ -3,7 +3,7 @@
 use Rattle.std.specs.Prelude.{ℤ, ℕ, pos, ◌-ℤ◌, ◌*ℤ◌, ◌≤ℤ◌}
 use Rattle.def_fraction.specs.Fraction.{Fraction}
 use Rattle.def_fraction.specs.Order.{IsAtMost}
-use Rattle.def_program.specs.Bounds.{difference}
+use Rattle.def_cert_accepted.specs.Bounds.{difference}
 
 -- HIGH less LOW, as an exact fraction, is at most the width
 abbrev pub IsAsNarrow : Fraction → Fraction → Fraction → Type 0

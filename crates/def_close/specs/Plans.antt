@@ -25,7 +25,7 @@ use Rattle.def_check.specs.Check.{most_cert_bytes}
 use Rattle.def_check.specs.Checking.{Checks}
 use Rattle.def_command.specs.Grammar.{Settings}
 use Rattle.def_game_numbers.specs.Weighed.{weighed_game}
-use Rattle.def_program.specs.Bounds.{BoundsHold}
+use Rattle.def_cert_accepted.specs.Bounds.{BoundsHold}
 use Rattle.def_program.specs.Checked.{HoldsOfFile}
 use Rattle.def_program.specs.Text.{form_of_file, game_head}
 

@@ -2,7 +2,8 @@
 use Rattle.std.proofs.Common.{◌≡◌, Option, Some, None, refl}
 use Rattle.std.specs.Prelude.{IsSomeAnd}
 use Rattle.def_cert_verdict.specs.Certificate.{PrintedBounds}
-use Rattle.def_program.specs.Bounds.{BoundsHold, game_bounds}
+use Rattle.def_cert_accepted.specs.Bounds.{BoundsHold}
+use Rattle.def_program.specs.Bounds.{game_bounds}
 use Rattle.def_program.proofs.Played.{each_played}
 use Rattle.def_closing_program.specs.Promises.{IsWithinPromise, WrittenBracketsKeepTheirPromises}
 use Rattle.def_closing_program.proofs.Accepted.{played_well}

@@ -38,10 +38,10 @@ use Rattle.def_program.specs.TextLines.{fault_line}
 use Rattle.def_program.specs.CheckLines.{cert_long_line, check_text, upgrade_text, upgraded_text, verdict_text}
 use Rattle.def_program.specs.Program.{Answer, check_answer, refusal}
 use Rattle.def_program.specs.Meaning.{BothMean, CheckMeans, IsMeant, Means, file_too_long, file_within, too_long, within}
-use Rattle.def_program.specs.Bounds.{BoundsHold}
+use Rattle.def_cert_accepted.specs.Bounds.{BoundsHold}
 use Rattle.def_program.specs.Checked.{AreChecked, ForEachChecked, HoldsOfFile, checked_text}
 use Rattle.def_program.specs.Laws.{AcceptedCertificatesHold, UpgradesAreWritten}
-use Rattle.def_program.proofs.Bounds.{bounds_hold}
+use Rattle.def_cert_accepted.proofs.Bounds.{bounds_hold}
 
 -- ---- the trace
 

@@ -2,6 +2,5 @@ pub mod ReadBack
 pub mod PokerFileIsRead
 pub mod Batches
 pub mod Meant
-pub mod Bounds
 pub mod Played
 pub mod Checked

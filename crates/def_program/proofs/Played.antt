@@ -13,22 +13,13 @@ use Rattle.def_game_paths.specs.Paths.{leaf_visits}
 use Rattle.def_game_scale.specs.Scale.{all_expected, expected, weights}
 use Rattle.def_game_numbers.specs.Numbers.{game_file_fault, tables_of}
 use Rattle.def_sequence_form.proofs.Leaves.{form_has_the_mass, leaves_counted, length-leaves_with}
-use Rattle.def_reply.specs.Bracket.{BracketEnds, ends_of}
-use Rattle.def_reply.specs.Outcome.{Head}
-use Rattle.def_run.specs.Run.{WeighedRun, SumsPlans, evaluations_in}
-use Rattle.def_run.proofs.WeighedEnds.{weighed_runs_have_ends}
-use Rattle.def_run.proofs.WeighedTraces.{weighed_trace_never_widens}
 use Rattle.def_plus.specs.declared.Variant.{Variant}
 use Rattle.def_plus.specs.declared.Variant.TheVariants as variants
-use Rattle.def_plus_run.specs.VariantRun.{run_of, outcome_of}
-use Rattle.def_plus_run.proofs.VariantRuns.{variant_runs_sum_plans}
 use Rattle.def_cert_verdict.specs.Certificate.{Certificate, PrintedBounds}
 use Rattle.def_plan.specs.Weighed.{WeighedGame}
-use Rattle.def_cert_verdict.specs.Laws.{HoldsUpBy, IsHeadOf, ShowsItsBoundsBy, with_bounds}
-use Rattle.def_cert_verdict.proofs.Shown.{shown_where_they_hold}
-use Rattle.def_cert_accepted.specs.OfOutcome.{certificate_of}
-use Rattle.def_cert_accepted.proofs.Accepted.{holds_in}
-use Rattle.def_cert_accepted.proofs.OfRun.{bounds_in, certificate_in, same_head}
+use Rattle.def_cert_verdict.specs.Laws.{IsHeadOf, with_bounds}
+use Rattle.def_cert_accepted.specs.Bounds.{BoundsHold}
+use Rattle.def_cert_accepted.proofs.Outcomes.{outcomes_have_bounds}
 use Rattle.def_cert_versions.specs.Verdict.{in_version_two}
 use Rattle.def_command.specs.Grammar.{Batch, Check, Command, Drill, Gen, Info, Plus, Settings, Solve, Upgrade, command_of_words}
 use Rattle.def_command.proofs.InRange.{cards_in_range, settings_in_range}
@@ -46,10 +37,9 @@ use Rattle.def_check.specs.Accepting.{read_as_accepted, unless_faulty}
 use Rattle.def_program.specs.Meaning.{FileMeans, IsMeant, Means, written}
 use Rattle.def_game_numbers.specs.Weighed.{weighed_game}
 use Rattle.def_check.proofs.InNumbers.{some_unit, sets_in_order}
-use Rattle.def_program.specs.Bounds.{BoundsHold, CommandPlays, ForEachPlayed, HasItsBounds, IsPlayed, PlayedPart, TraceNarrows, WroteBounds, written_alone}
+use Rattle.def_program.specs.Bounds.{CommandPlays, ForEachPlayed, HasItsBounds, IsPlayed, PlayedPart, WroteBounds, written_alone}
 use Rattle.def_program.specs.Laws.{PlayedGamesHaveTheirBounds}
 use Rattle.def_program.proofs.Batches.{all_told_is, batch_meant, text_between}
-use Rattle.def_program.proofs.Bounds.{bounds_hold}
 use Rattle.def_program.proofs.PokerFileIsRead.{made_accepted, made_is}
 use Rattle.def_program.proofs.Meant.{file_meant}
 
@@ -80,60 +70,20 @@ module _ (bytes : List ℕ) (game : GameFile) (stands : StandsFor bytes game) wh
   abbrev numbers : WeighedGame
   numbers = weighed_game game
 
-  module _ (variant : Variant) (settings : Settings) where
-    abbrev run : WeighedRun
-    run = run_of variant numbers.form settings.scale
-
-    module _ (some_scale : 1 ≤ settings.scale) (ends : BracketEnds)
-        (are : ends_of (evaluations_in numbers.form run settings.every settings.rounds) ≡ Some ends) where
-      abbrev bounds : PrintedBounds
-      bounds = bounds_in numbers run settings.rounds settings.every ends
-
-      certificate_is : game_certificate variant game settings ≡ with_bounds (game_head game settings) bounds
-      certificate_is =
-          let same = same_head numbers (game_head game settings) (head_of_game game settings) in
-          ap (λ (h : Head). certificate_of numbers.form (outcome_of variant numbers.form h)) same
-          ∙ certificate_in numbers run settings.rounds settings.every settings.scale ends are
-          ∙ ap (λ (h : Head). with_bounds h bounds) (sym same)
-
-      sums : SumsPlans numbers.form settings.scale run
-      sums =
-          variant_runs_sum_plans variant numbers.form settings.scale (sets_in_order bytes game stands One refl)
-          (sets_in_order bytes game stands Two refl) some_scale
-
-      holds_up : HoldsUpBy run.weight numbers settings.scale bounds
-      holds_up =
-          holds_in numbers run settings.rounds settings.every settings.scale ends
-          (sets_in_order bytes game stands One refl) (sets_in_order bytes game stands Two refl) sums are
-
-      shows : ShowsItsBoundsBy run.weight numbers bounds
-      shows =
-          shown_where_they_hold run.weight numbers settings.scale bounds (sets_in_order bytes game stands One refl)
-          (sets_in_order bytes game stands Two refl) (some_unit bytes game stands) holds_up
-
-      trace : TraceNarrows numbers variant settings.scale bounds
-      trace = record {
-        within_earlier = λ j k line.
-            weighed_trace_never_widens numbers.form run settings.every settings.rounds j k line sums.some_weight;
-        last_low = sym shows.traced_low;
-        last_high = sym shows.traced_high;
-        low_round = holds_up.plan_one.root_is;
-        high_round = holds_up.plan_two.root_is;
+  -- what is printed of a game that a file stands for holds
+  pub read_game_has_bounds : (variant : Variant) (settings : Settings) → 1 ≤ settings.rounds → 1 ≤ settings.scale
+      → HasItsBounds variant game settings
+  read_game_has_bounds variant settings some_round some_scale =
+      let it =
+      outcomes_have_bounds.of_rounds variant numbers (game_head game settings) (sets_in_order bytes game stands One refl)
+      (sets_in_order bytes game stands Two refl) (head_of_game game settings) (some_unit bytes game stands) some_scale
+      some_round in
+      record {
+        bounds = it.bounds;
+        are = ap (λ (c : Certificate). c.bounds) it.are;
+        text = ap (λ (c : Certificate). text_of_variant variant (in_version_two c)) it.are;
+        hold = it.hold;
       }
-
-      has_bounds : HasItsBounds variant game settings
-      has_bounds = record {
-        bounds = bounds;
-        are = ap (λ (c : Certificate). c.bounds) certificate_is;
-        text = ap (λ (c : Certificate). text_of_variant variant (in_version_two c)) certificate_is;
-        hold = bounds_hold run.weight numbers bounds shows variant settings.scale trace;
-      }
-
-    -- what is printed of a game that a file stands for holds
-    pub read_game_has_bounds : 1 ≤ settings.rounds → 1 ≤ settings.scale → HasItsBounds variant game settings
-    read_game_has_bounds some_round some_scale =
-        let ends = weighed_runs_have_ends numbers.form run settings.every settings.rounds some_round in
-        has_bounds some_scale ends.0 ends.1
 
 -- what is printed of a game that was played holds
 pub played_games_have_bounds : PlayedGamesHaveTheirBounds

@@ -14,7 +14,8 @@ use Rattle.def_check.specs.Accepted.{IsAccepted}
 use Rattle.def_program.specs.CheckLines.{upgraded_text}
 use Rattle.def_program.specs.Program.{Answer, program}
 use Rattle.def_program.specs.Meaning.{Means, MeansOnly, FilesAreTold}
-use Rattle.def_program.specs.Bounds.{BoundsHold, HasItsBounds}
+use Rattle.def_cert_accepted.specs.Bounds.{BoundsHold}
+use Rattle.def_program.specs.Bounds.{HasItsBounds}
 use Rattle.def_program.specs.Checked.{HoldsOfFile}
 
 -- what the words mean is exactly the answer that `program` computes

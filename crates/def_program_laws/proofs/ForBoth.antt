@@ -32,7 +32,7 @@ use Rattle.def_check.specs.Accepted.{IsAccepted}
 use Rattle.def_check.proofs.Checked.{test_first, tested_ok}
 use Rattle.def_check.proofs.InNumbers.{faultless_game}
 use Rattle.def_plus.specs.declared.Variant.{Variant}
-use Rattle.def_program.specs.Bounds.{BoundsHold}
+use Rattle.def_cert_accepted.specs.Bounds.{BoundsHold}
 use Rattle.def_program_laws.specs.Bounds.{AcceptedSecondsBoundPlayerTwo, BoundsHoldForBothPlayers, HoldForBothPlayers}
 
 -- an accepted file's game is complete and of constant sum

@@ -10,7 +10,7 @@ use Rattle.def_cert_verdict.specs.Certificate.{PrintedBounds, printed_numbers}
 use Rattle.def_plan.specs.Weighed.{WeighedGame}
 use Rattle.def_cert_verdict.specs.Laws.{ConcedesAtMost, GetsAtLeast}
 use Rattle.def_plus.specs.declared.Variant.{Variant}
-use Rattle.def_program.specs.Bounds.{BoundsHold}
+use Rattle.def_cert_accepted.specs.Bounds.{BoundsHold}
 use Rattle.def_program_laws.specs.Bounds.{BoundsAreSharp}
 
 -- ---- fractions

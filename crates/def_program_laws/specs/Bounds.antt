@@ -31,7 +31,7 @@ use Rattle.def_check.specs.Accepted.{IsAccepted}
 use Rattle.def_check.specs.Check.{checked}
 use Rattle.def_check.specs.Checking.{IsTextOf}
 use Rattle.def_plus.specs.declared.Variant.{Variant}
-use Rattle.def_program.specs.Bounds.{BoundsHold}
+use Rattle.def_cert_accepted.specs.Bounds.{BoundsHold}
 
 -- two plans have one total exploitability
 abbrev pub ExploitabilityIsOne : Type 0

@@ -3,7 +3,7 @@ use Rattle.std.proofs.Common.{ℕ}
 use Rattle.def_plan.specs.Weighed.{WeighedGame}
 use Rattle.def_cert_verdict.specs.Certificate.{PrintedBounds}
 use Rattle.def_plus.specs.declared.Variant.{Variant}
-use Rattle.def_program.specs.Bounds.{BoundsHold}
+use Rattle.def_cert_accepted.specs.Bounds.{BoundsHold}
 use Rattle.def_program_readings.specs.Bounds.{BoundsAreRead, BoundsSay}
 
 module _ (game : WeighedGame) (variant : Variant) (scale : ℕ) (b : PrintedBounds) where

@@ -7,7 +7,7 @@ use Rattle.def_cert_text.specs.CertText.{versioned_text}
 use Rattle.def_cert_text.specs.Versions.{VersionedCertificate}
 use Rattle.def_cert_versions.specs.Verdict.{upgraded}
 use Rattle.def_command.specs.Grammar.{Check, Command, Upgrade, command_of_words}
-use Rattle.def_program.specs.Bounds.{BoundsHold}
+use Rattle.def_cert_accepted.specs.Bounds.{BoundsHold}
 use Rattle.def_program.specs.CheckLines.{verdict_text}
 use Rattle.def_program.specs.Checked.{AreChecked, HoldsOfFile, checked_text}
 use Rattle.def_program_readings.specs.Checks.{ChecksAreRead, IsShown}

@@ -10,7 +10,7 @@ use Rattle.def_cert_verdict.specs.Certificate.{PrintedBounds, last_line, printed
 use Rattle.def_cert_verdict.specs.Laws.{ConcedesAtMost, GetsAtLeast}
 use Rattle.def_plus.specs.declared.Variant.{Variant}
 use Rattle.def_plus.specs.Variants.{weight_of_rounds}
-use Rattle.def_program.specs.Bounds.{BoundsHold, GapIsExploitability, NoPlanDoesBetter}
+use Rattle.def_cert_accepted.specs.Bounds.{BoundsHold, GapIsExploitability, NoPlanDoesBetter}
 
 -- a later line of the trace is no lower and no higher than an earlier one, each bound over what its rounds weigh
 pub record IsNoWider (variant : Variant) (later earlier : TraceLine) : Type 0 where

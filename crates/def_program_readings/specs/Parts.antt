@@ -13,7 +13,8 @@ use Rattle.def_plus.specs.declared.Variant.TheVariants as variants
 use Rattle.def_command.specs.Grammar.{Batch, Check, Drill, Gen, Info, Plus, RowSettings, Settings, Solve, Upgrade}
 use Rattle.def_command.specs.Grammar.{command_of_words}
 use Rattle.def_program.specs.BatchText.{batch_items, file_line, parts_text}
-use Rattle.def_program.specs.Bounds.{BoundsHold, ForEachPlayed, IsPlayed, PlayedPart, game_bounds}
+use Rattle.def_cert_accepted.specs.Bounds.{BoundsHold}
+use Rattle.def_program.specs.Bounds.{ForEachPlayed, IsPlayed, PlayedPart, game_bounds}
 use Rattle.def_program.specs.Text.{played_text}
 
 -- rounds of this variant on a game with these settings, the text of which stands alone

@@ -10,7 +10,7 @@ use Rattle.def_game_numbers.specs.Numbers.{game_file_fault}
 use Rattle.def_game_numbers.specs.Weighed.{weighed_game}
 use Rattle.def_run.specs.Run.{outcome}
 use Rattle.def_batch.specs.Batch.{BatchEntry, Kept, Long, entry_bytes, item_of}
-use Rattle.xg_cert.specs.Writable.{IsOutcomeOf}
+use Rattle.def_cert_accepted.specs.Writable.{IsOutcomeOf}
 use Rattle.xg_game.specs.declared.fault.Refused.{Refused as Unread}
 use Rattle.xg_game.specs.declared.fault.Refused.TheVariants.{File, NoMemory}
 use Rattle.xg_engine.specs.State.{EngineState, head_with}

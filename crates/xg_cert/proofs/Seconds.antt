@@ -19,7 +19,7 @@ use Rattle.def_game_numbers.specs.WholeSums.{IsWholeIn}
 use Rattle.def_cert_versions.proofs.Upgrades.{den-divides, weight-small}
 use Rattle.xg_cert.specs.declared.bounds.FormBounds.{FormBounds}
 use Rattle.def_cert_text.specs.Versions.{VersionedCertificate, VersionedFits}
-use Rattle.xg_cert.specs.Outcome.{end_seen}
+use Rattle.xg_outcome.specs.Outcome.{end_seen}
 use Rattle.xg_cert.specs.Printed.{bounds_in, no_bounds}
 use Rattle.xg_cert.specs.Writable.{AreFormBounds, IsWholeEnd, LeavesSecond, form_bounds}
 

@@ -1,4 +1,3 @@
-pub mod Outcome
 pub mod Writes
 pub mod Writable
 pub mod Printed

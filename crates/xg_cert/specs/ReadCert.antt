@@ -7,13 +7,13 @@ use Rattle.def_cert_verdict.specs.Certificate.{PrintedBounds}
 use Rattle.def_cert_text.specs.Versions.{PrintedBracket, VersionedCertificate}
 use Rattle.def_cert_text.specs.declared.version.TextVersion.{TextVersion}
 use Rattle.def_cert_text.specs.declared.version.TextVersion.TheVariants as versions
-use Rattle.xg_cert.specs.declared.head.Head.{Head}
+use Rattle.xg_outcome.specs.declared.head.Head.{Head}
 use Rattle.xg_cert.specs.declared.cert.BoundsLines.{BoundsLines}
 use Rattle.xg_cert.specs.declared.cert.CertLines.{CertLines}
 use Rattle.xg_cert.specs.declared.read_lines.Asked.{Asked}
 use Rattle.xg_cert.specs.declared.read_lines.ValueLine.{ValueLine}
 use Rattle.def_reply.specs.Reply.{SetReply}
-use Rattle.xg_cert.specs.Outcome.{head_of}
+use Rattle.xg_outcome.specs.Outcome.{head_of}
 
 abbrev pub bounds_of : BoundsLines → PrintedBounds
 bounds_of b = record {

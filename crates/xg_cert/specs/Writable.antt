@@ -12,6 +12,7 @@ use Rattle.def_reply.specs.Outcome.{Head, End, OutcomeEnds, Outcome}
 use Rattle.def_cert_verdict.specs.Certificate.{PrintedPlan, PrintedBounds}
 use Rattle.def_cert_verdict.specs.Ranges.{IsFromTo}
 use Rattle.def_cert_accepted.specs.OfOutcome.{printed_bounds}
+use Rattle.def_cert_accepted.specs.Writable.{IsEndOf}
 use Rattle.def_cert_text.specs.Fields.{items_text}
 use Rattle.def_cert_text.specs.Formats.{text_of, each_items}
 use Rattle.def_cert_text.specs.declared.version.TextVersion.TheVariants as versions
@@ -24,25 +25,9 @@ use Rattle.def_cert_versions.specs.Verdict.{second_bracket}
 use Rattle.xg_cert.specs.declared.bounds.FormBounds.{FormBounds}
 use Rattle.xg_cert.specs.declared.cert_lines.FirstLine.{FirstLine}
 use Rattle.xg_cert.specs.declared.cert_lines.FirstLine.TheVariants as openings
-use Rattle.xg_cert.specs.Outcome.{end_seen}
+use Rattle.xg_outcome.specs.Outcome.{end_seen}
 
 -- ---- outcomes
--- a plan of a player with these sets, and a reply of the other player
-pub record IsEndOf (own others : List InformationSet) (end : End) : Type 0 where
-  pub plan : length end.plan ≡ sequence_count own
-  pub reply : length end.reply.sets ≡ length others
-  pub root : IsFromTo 1 most_root (slice_index end.plan 0)
-  pub total : unsigned_abs end.reply.total ≤ most_row
-
-abbrev pub AreEndsOf : SequenceForm → Option OutcomeEnds → Type 0
-AreEndsOf form None = Unit {0}
-AreEndsOf form (Some ends) = IsEndOf form.sets_one form.sets_two ends.lower × IsEndOf form.sets_two form.sets_one ends.upper
-
-pub record IsOutcomeOf (form : SequenceForm) (outcome : Outcome) : Type 0 where
-  pub unit : IsFromTo 1 most outcome.head.unit
-  pub sum : IsWholeIn outcome.head.unit outcome.head.sum
-  pub ends : AreEndsOf form outcome.ends
-
 -- the ends of an outcome with the form of its game
 abbrev pub end_in : Player → FormBounds → End
 end_in One b = end_seen b.lower.now

@@ -7,12 +7,12 @@ ghost use Rattle.def_cert_verdict.specs.Ranges.{IsFromTo};
 ghost use Rattle.def_fraction.specs.Fraction.{most};
 ghost use Rattle.def_reply.specs.Reply.{choices_of, values_of};
 ghost use Rattle.def_sums.specs.Limits.{most_root, most_row};
-ghost use Rattle.xg_cert.specs.Outcome.{end_seen};
+ghost use Rattle.xg_outcome.specs.Outcome.{end_seen};
 ghost use Rattle.xg_cert.specs.Printed.{bounds_in, plan_in, reply_in};
 ghost use Rattle.xg_cert.specs.Writable.{AreFormBounds, end_in, form_bounds, reply_end_in};
 
 use crate::cert::Cert;
-use crate::outcome::End;
+use xg_outcome::End;
 use crate::scales::scale_of;
 use def_reply::TraceLine;
 use def_tree::Player;

@@ -5,11 +5,11 @@ ghost use Rattle.def_cert_text.specs.declared.version.TextVersion.TheVariants as
 ghost use Rattle.def_cert_verdict.specs.Ranges.{BoundsFit, PlanWeightsFit};
 ghost use Rattle.def_cert_verdict.specs.Certificate.{printed_numbers};
 ghost use Rattle.def_reply.specs.Reply.{choices_of, values_of};
-ghost use Rattle.xg_cert.specs.Outcome.{head_of};
+ghost use Rattle.xg_outcome.specs.Outcome.{head_of};
 ghost use Rattle.xg_cert.specs.Printed.{bounds_in, plan_in, reply_in, set_count_in};
 ghost use Rattle.xg_cert.specs.ReadCert.{bounds_of, second_where_given, version_number};
 
-use crate::head::Head;
+use xg_outcome::Head;
 use crate::printed::{PlanLines, ReplyLines};
 use def_cert_text::TextVersion;
 use def_reply::TraceLine;

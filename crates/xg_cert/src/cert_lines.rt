@@ -6,12 +6,12 @@ ghost use Rattle.def_outside.specs.Cause.{HasCause};
 ghost use Rattle.def_cert_text.specs.Fields.{space, feed, fixed_word, number, field, separator, items_text};
 ghost use Rattle.def_cert_text.specs.Formats.{text_of};
 ghost use Rattle.def_cert_text.specs.CertText.{asked_text, last_text, line_of_round, value_line};
-ghost use Rattle.xg_cert.specs.Outcome.{head_of};
+ghost use Rattle.xg_outcome.specs.Outcome.{head_of};
 ghost use Rattle.xg_cert.specs.Writable.{opening_line};
 ghost use Rattle.def_outside.specs.Sinks.{Writes};
 
 use crate::fields::{put_field, put_fraction, put_signed, put_whole};
-use crate::head::Head;
+use xg_outcome::Head;
 use crate::lines::put_named;
 use def_reply::TraceLine;
 use xg_frac::Ratio;

@@ -8,11 +8,11 @@ ghost use Rattle.def_cert_text.specs.Fields.{space, feed, fixed_word, number, fi
 ghost use Rattle.def_cert_text.specs.Formats.{text_of};
 ghost use Rattle.def_cert_text.specs.CertText.{head_text, head_text_of, size_line, sum_line, unit_line};
 ghost use Rattle.def_cert_text.specs.declared.version.TextVersion.TheVariants as versions;
-ghost use Rattle.xg_cert.specs.Outcome.{head_of};
+ghost use Rattle.xg_outcome.specs.Outcome.{head_of};
 ghost use Rattle.xg_cert.specs.Writes.{counts_text, named_text, units_text};
 
 use crate::fields::{put_field, put_fraction, put_whole};
-use crate::head::Head;
+use xg_outcome::Head;
 use def_cert_text::TextVersion;
 use xg_frac::{Frac, Ratio, ratio};
 use xg_io::{Sink, WriteFault};

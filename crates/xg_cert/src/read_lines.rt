@@ -10,10 +10,10 @@ ghost use Rattle.def_cert_text.specs.CertText.{head_lines_of, line_of_round, val
 ghost use Rattle.def_cert_text.specs.declared.version.TextVersion.TheVariants as versions;
 ghost use Rattle.def_cert_verdict.specs.Ranges.{most_printed};
 ghost use Rattle.xg_cert_fields.specs.Reading.{GivesValue};
-ghost use Rattle.xg_cert.specs.Outcome.{head_of};
+ghost use Rattle.xg_outcome.specs.Outcome.{head_of};
 ghost use Rattle.xg_cert.specs.ReadCert.{bracket_between, set_reply_of, asked_of};
 
-use crate::head::Head;
+use xg_outcome::Head;
 use def_cert_text::{CertFault, TextVersion};
 use def_reply::TraceLine;
 use def_sums::{MOST_MASS, MOST_ROUNDS, MOST_SCALE};

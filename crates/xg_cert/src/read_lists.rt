@@ -5,10 +5,10 @@ ghost use Rattle.def_tree.specs.Rules.{most_actions, most_nodes};
 ghost use Rattle.def_cert_text.specs.Formats.{read_each, read_row};
 ghost use Rattle.def_cert_text.specs.CertText.{evaluation_count, line_of_round, round_of_evaluation, trace_lines, value_line, weights_line};
 ghost use Rattle.xg_cert_fields.specs.Reading.{GivesValue};
-ghost use Rattle.xg_cert.specs.Outcome.{head_of};
+ghost use Rattle.xg_outcome.specs.Outcome.{head_of};
 ghost use Rattle.xg_cert.specs.Answers.{Extends, GivesValueFor};
 
-use crate::head::Head;
+use xg_outcome::Head;
 use crate::printed::{PlanLines, ReplyLines};
 use crate::read_lines::{set_number, trace_line, value_line};
 use crate::refused::CertRefused;

@@ -9,13 +9,13 @@ ghost use Rattle.def_cert_text.specs.CertText.{versioned_certificate, versioned_
 ghost use Rattle.def_cert_text.specs.FirstFault.{FirstVersionedFault};
 ghost use Rattle.xg_cert.specs.declared.refused.CertRefused.TheVariants as refused;
 ghost use Rattle.xg_cert.specs.Answers.{AnswersCertificate, AnswersAs, GivesValueFor};
-ghost use Rattle.xg_cert.specs.Outcome.{head_of};
+ghost use Rattle.xg_outcome.specs.Outcome.{head_of};
 ghost use Rattle.xg_cert.specs.ReadCert.{IsReadHead, bounds_of, bounds_where_given, certificate_read};
 ghost use Rattle.xg_cert.specs.ReadCert.{second_where_given};
 ghost use Rattle.xg_cert_fields.specs.Reading.{GivesValue};
 
 use crate::cert::{BoundsLines, Cert, CertLines};
-use crate::head::Head;
+use xg_outcome::Head;
 use crate::printed::{PlanLines, ReplyLines};
 use crate::read_lines::{bracket_line, head_lines, second_line};
 use crate::read_lists::{trace_lines, value_lines, weights_lines};

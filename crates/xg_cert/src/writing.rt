@@ -11,19 +11,20 @@ ghost use Rattle.def_cert_text.specs.CertText.{last_text, second_text, versioned
 ghost use Rattle.def_cert_text.specs.PlusText.{plus_text};
 ghost use Rattle.def_cert_versions.specs.Upgrade.{IsUpgradable};
 ghost use Rattle.def_cert_versions.specs.Verdict.{in_version_two, second_bracket, upgraded};
-ghost use Rattle.xg_cert.specs.Outcome.{head_of};
+ghost use Rattle.xg_outcome.specs.Outcome.{head_of};
 ghost use Rattle.xg_cert.specs.Printed.{plan_in, reply_in};
-ghost use Rattle.xg_cert.specs.Writable.{IsOutcomeOf, LeavesSecond, above_text, below_text};
+ghost use Rattle.def_cert_accepted.specs.Writable.{IsOutcomeOf};
+ghost use Rattle.xg_cert.specs.Writable.{LeavesSecond, above_text, below_text};
 ghost use Rattle.xg_cert.specs.Writable.{end_text, ends_text, plan_text, reply_text, text_under};
 
 use crate::bounds::{Bounds, FormBounds};
 use crate::cert::Cert;
 use crate::cert_lines::{FirstLine, put_asked, put_ends_line, put_first_line, put_last_line};
 use crate::fields::{put_field, put_signed};
-use crate::head::Head;
+use xg_outcome::Head;
 use crate::lines::{put_head, put_named};
 use crate::lists::{put_trace, put_values, put_weights};
-use crate::outcome::Outcome;
+use xg_outcome::Outcome;
 use crate::second::second_end;
 use def_cert_text::TextVersion;
 use def_tree::Player;

@@ -1,8 +1,8 @@
 //! A text of CFR+, written and then read.
 ghost use Rattle.std.specs.Prelude.{IfOk};
 ghost use Rattle.def_plan.specs.Form.{player_sets};
-ghost use Rattle.xg_cert.specs.Outcome.{end_seen};
-ghost use Rattle.xg_cert.specs.Writable.{IsEndOf, IsOutcomeOf};
+ghost use Rattle.xg_outcome.specs.Outcome.{end_seen};
+ghost use Rattle.def_cert_accepted.specs.Writable.{IsEndOf, IsOutcomeOf};
 
 use crate::reading::is_refused;
 use def_tree::Player;

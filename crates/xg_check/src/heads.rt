@@ -3,7 +3,7 @@ ghost use Rattle.std.specs.Prelude.{◌≡◌, ◌==◌, ◌&&◌, length};
 ghost use Rattle.def_plan.specs.Form.{sequence_count};
 ghost use Rattle.def_cert_verdict.specs.Verdict.{first_failing, is_same_fraction};
 ghost use Rattle.def_cert_versions.specs.Verdict.{head_tests_of};
-ghost use Rattle.xg_cert.specs.Outcome.{head_of};
+ghost use Rattle.xg_outcome.specs.Outcome.{head_of};
 ghost use Rattle.xg_check.specs.Parts.{is_unit_line};
 
 use def_cert_text::TextVersion;

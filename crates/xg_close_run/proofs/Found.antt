@@ -17,7 +17,7 @@ use Rattle.def_cert_verdict.specs.Ranges.{IsFromTo}
 use Rattle.def_game_numbers.specs.WholeSums.{IsWholeIn}
 use Rattle.def_close.specs.Plans.{ArePlansOf, ends_of_plans, one_line}
 use Rattle.xg_bracket.proofs.Offered.{length-best}
-use Rattle.xg_cert.specs.Writable.{IsOutcomeOf}
+use Rattle.def_cert_accepted.specs.Writable.{IsOutcomeOf}
 use Rattle.xg_search.specs.declared.search.Search.{Search}
 use Rattle.xg_search.specs.Searches.{IsSearchOf, high_of, low_of, lower_of, upper_of}
 

@@ -6,7 +6,7 @@ use Rattle.def_fraction.specs.Fraction.{Fraction}
 use Rattle.def_file.specs.Content.{GameFile}
 use Rattle.def_game_numbers.specs.Numbers.{tables_of}
 use Rattle.def_payoffs.specs.Range.{IsPayoffRange}
-use Rattle.def_program.specs.Bounds.{difference}
+use Rattle.def_cert_accepted.specs.Bounds.{difference}
 use Rattle.def_progress.specs.Decimals.{IsQuotientText}
 
 -- a hundred-thousandth

@@ -5,7 +5,7 @@ ghost use Rattle.def_game_numbers.specs.Weighed.{weighed_game};
 ghost use Rattle.def_program.specs.Text.{form_of_file, game_head};
 ghost use Rattle.def_outside.specs.Cause.{HasCause};
 ghost use Rattle.def_outside.specs.Sinks.{Writes};
-ghost use Rattle.xg_cert.specs.Outcome.{end_seen};
+ghost use Rattle.xg_outcome.specs.Outcome.{end_seen};
 ghost use Rattle.xg_close_words.specs.Limits.{AreWithinLimits};
 ghost use Rattle.xg_io.specs.Calls.{sink_call};
 ghost use Rattle.xg_jobs.specs.Table.{HasLeavesOf};

@@ -14,7 +14,7 @@ impl Writable for CertificateText<'_> {
     ghost use Rattle.def_cert_accepted.specs.OfOutcome.{certificate_of};
     ghost use Rattle.def_cert_text.specs.CertText.{versioned_text};
     ghost use Rattle.def_cert_versions.specs.Verdict.{in_version_two};
-    ghost use Rattle.xg_cert.specs.Writable.{IsOutcomeOf};
+    ghost use Rattle.def_cert_accepted.specs.Writable.{IsOutcomeOf};
 
     ghost bytes = { λ t. versioned_text (in_version_two (certificate_of t.form.now t.outcome.now)) };
 

@@ -3,7 +3,7 @@ ghost use Rattle.std.specs.Prelude.{◌≡◌, ◌↔◌, ◌≤◌, ◌*◌, �
 ghost use Rattle.def_close.specs.Narrow.{AreAsNarrow};
 ghost use Rattle.def_fraction.specs.Fraction.{most};
 ghost use Rattle.def_fraction.specs.Order.{IsAtMost};
-ghost use Rattle.def_program.specs.Bounds.{difference};
+ghost use Rattle.def_cert_accepted.specs.Bounds.{difference};
 ghost use Rattle.def_progress.specs.Decimals.{IsQuotientText};
 ghost use Rattle.xg_close_lines.specs.Texts.{asked_text};
 ghost use Rattle.def_sums.specs.Limits.{most_row};

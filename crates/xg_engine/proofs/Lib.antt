@@ -3,7 +3,6 @@ pub mod Growing
 pub mod PlayersFollowRounds
 pub mod Offering
 pub mod PartsOfBoard
-pub mod OutcomeLaws
 pub mod GameFormIsOfTree
 pub mod Writable
 pub mod Left

@@ -119,6 +119,8 @@ pub both_learned : (variant : Variant) (form : SequenceForm) (root n : ℕ) (bef
 both_learned variant form root n before after played_one played_two one two rows_one rows_two =
     let was = rounds_of variant form root n in
     stand_next variant form root n after
-    (has_learned variant form.sets_one root n was.regrets_one was.sum_one One form.leaves before.two.plan _ before.one after.one played_one played_two.plan one.room one.regrets one.closed one.sums)
-    (has_learned variant form.sets_two root n was.regrets_two was.sum_two Two form.leaves before.one.plan _ before.two after.two played_two played_one.plan two.room two.regrets two.closed two.sums)
+    (has_learned variant form.sets_one root n was.regrets_one was.sum_one One form.leaves before.two.plan _ before.one after.one played_one
+    played_two.plan one.room one.regrets one.closed one.sums)
+    (has_learned variant form.sets_two root n was.regrets_two was.sum_two Two form.leaves before.one.plan _ before.two after.two played_two
+    played_one.plan two.room two.regrets two.closed two.sums)
     rows_one rows_two

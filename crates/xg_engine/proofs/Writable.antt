@@ -1,28 +1,26 @@
 -- The outcome of a run is writable.
-use Rattle.std.proofs.Common.{◌≡◌, ℕ, zero, suc, ◌*◌, ◌≤◌, refl, subst, sym, arith}
+use Rattle.std.proofs.Common.{◌≡◌, ℕ, zero, suc, ◌*◌, ◌≤◌, Some, refl, ap, ◌∙◌, subst, sym, arith}
 use Rattle.def_fraction.specs.Fraction.{most}
 use Rattle.def_sums.specs.Limits.{most_root}
 use Rattle.def_tree.specs.declared.Player.TheVariants.{One, Two}
 use Rattle.def_plan.specs.Form.{SequenceForm}
 use Rattle.def_plan.specs.Plan.{IsPlan}
 use Rattle.def_reply.proofs.ReplySizes.{bounds_small}
-use Rattle.def_reply.specs.Bracket.{BracketEnds}
-use Rattle.def_reply.specs.declared.TraceLine.{TraceLine}
-use Rattle.def_reply.specs.Outcome.{Head, OutcomeEnds}
+use Rattle.def_reply.specs.Bracket.{BracketEnds, ends_of}
+use Rattle.def_reply.specs.Outcome.{Head}
 use Rattle.def_cert_verdict.specs.Ranges.{IsFromTo}
-use Rattle.def_run.specs.Run.{SumsPlans, WeighedRun}
-use Rattle.def_run.proofs.WeighedOutcomes.{ends_at, weighed_outcomes_show_their_run}
+use Rattle.def_run.specs.Run.{SumsPlans, WeighedRun, evaluations_in}
+use Rattle.def_run.proofs.WeighedEnds.{weighed_ends_are_the_earliest_best, weighed_runs_have_ends}
+use Rattle.def_run.proofs.WeighedOutcomes.{ends_at, shown_are, weighed_outcomes_show_their_run}
 use Rattle.def_plus.specs.declared.Variant.{Variant}
 use Rattle.def_plus.specs.Variants.{most_rounds_of, most_scale_of, weight_of_rounds}
 use Rattle.def_plus_run.specs.VariantRun.{outcome_of, run_of}
 use Rattle.def_plus_run.proofs.VariantRuns.{variant_runs_sum_plans}
 use Rattle.xg_bracket.proofs.Offered.{length-best}
 use Rattle.def_game_numbers.specs.WholeSums.{IsWholeIn}
-use Rattle.xg_cert.specs.Writable.{AreEndsOf, IsEndOf, IsOutcomeOf}
-use Rattle.xg_engine.specs.Ends.{HasEnds}
+use Rattle.def_cert_accepted.specs.Writable.{AreEndsOf, IsEndOf, IsOutcomeOf}
 use Rattle.xg_engine.specs.Players.{IsSoundForm}
 use Rattle.xg_engine.proofs.Growing.{sum_within}
-use Rattle.xg_engine.proofs.OutcomeLaws.{best_ends, has_ends}
 
 module _ (variant : Variant) (form : SequenceForm) (head : Head) (sound : IsSoundForm form) (some_scale : 1 ≤ head.scale)
     (small_scale : head.scale ≤ most_scale_of variant) (few_rounds : head.rounds ≤ most_rounds_of variant) where
@@ -64,16 +62,22 @@ module _ (variant : Variant) (form : SequenceForm) (head : Head) (sound : IsSoun
             sound.order_two is sound.small_mass root.1;
       }
 
-  abbrev AreWritable : TraceLine → OutcomeEnds → Type 0
-  AreWritable line ends = IsEndOf form.sets_one form.sets_two ends.lower × IsEndOf form.sets_two form.sets_one ends.upper
+  of_ends : (ends : BracketEnds) → ends_of (evaluations_in form run head.every head.rounds) ≡ Some ends
+      → AreEndsOf form (outcome_of variant form head).ends
+  of_ends ends are =
+      let best = weighed_ends_are_the_earliest_best form run head.every head.rounds ends sums.some_weight are in
+      let shown = weighed_outcomes_show_their_run.ends form run head ends are in
+      let is : (outcome_of variant form head).ends ≡ Some (ends_at form run ends) =
+      shown.1 ∙ ap Some (shown_are form run ends shown.0 shown.2) in
+      subst (AreEndsOf form) (sym is) (
+        lower_is ends best.of_lower.some best.of_lower.in_time,
+        upper_is ends best.of_upper.some best.of_upper.in_time,
+      )
 
   with_ends : 1 ≤ head.rounds → AreEndsOf form (outcome_of variant form head).ends
   with_ends some =
-      let has : HasEnds AreWritable (outcome_of variant form head) = has_ends variant form head sound some_scale AreWritable some
-      (λ ends r are.
-      let best = best_ends variant form head sound some_scale ends are in
-      (lower_is ends best.of_lower.some best.of_lower.in_time, upper_is ends best.of_upper.some best.of_upper.in_time)) in
-      subst (AreEndsOf form) (sym has.has) has.of_last
+      let ends = weighed_runs_have_ends form run head.every head.rounds some in
+      of_ends ends.0 ends.1
 
   ends_after : (n : ℕ) → head.rounds ≡ n → AreEndsOf form (outcome_of variant form head).ends
   ends_after zero none = subst (AreEndsOf form) (sym (weighed_outcomes_show_their_run.no_ends form run head none)) tt

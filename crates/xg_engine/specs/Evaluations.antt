@@ -25,7 +25,8 @@ pub record HasRoomForRows (form : SequenceForm) (room : RowRoom) : Type 0 where
 
 -- the board is made for plans in the form after rounds of the variant and for so many offers, and rows and replies have
 -- room for all sets and sequences
-pub record CanEvaluate (variant : Variant) (form : SequenceForm) (evaluations : ℕ) (evaluator : Evaluator) : Type 0 where
+pub record CanEvaluate (variant : Variant) (form : SequenceForm) (evaluations : ℕ)
+    (evaluator : Evaluator) : Type 0 where
   pub capacity : evaluator.board.capacity ≡ evaluations
   pub sizes : evaluator.board.sizes ≡ sizes_of form
   pub variant_is : evaluator.board.variant ≡ variant
@@ -48,9 +49,11 @@ pub record AreSumsAfter (variant : Variant) (form : SequenceForm) (round : ℕ) 
 
 -- what is offered of two sums: each with the best reply to it
 abbrev pub best_offer : Variant → SequenceForm → ℕ → List ℕ → List ℕ → Offer
-best_offer variant form round one two = offer_of variant round one two (best_reply_to form Two one) (best_reply_to form One two)
+best_offer variant form round one two =
+    offer_of variant round one two (best_reply_to form Two one) (best_reply_to form One two)
 
 -- the offers of the evaluated ones of the first rounds
 abbrev pub offers_upto : Variant → SequenceForm → Settings → ℕ → List Offer
 offers_upto variant form settings k =
-    map (offer_in form (run_of variant form settings.scale)) (filter (λ j. (j % settings.every == 0) || (j == settings.rounds)) (range_with_len 1 k))
+    map (offer_in form (run_of variant form settings.scale))
+    (filter (λ j. (j % settings.every == 0) || (j == settings.rounds)) (range_with_len 1 k))

@@ -1,4 +1,3 @@
-pub mod Ends
 pub mod Engines
 pub mod Evaluations
 pub mod Left

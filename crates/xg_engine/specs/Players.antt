@@ -42,8 +42,10 @@ pub record StandsWith (sets : List InformationSet) (closed : ℕ) (regrets : Lis
 
 -- both players stand as after so many rounds of the variant with plans of this root, with room for the rows of the next
 pub record StandAfter (variant : Variant) (form : SequenceForm) (root n : ℕ) (players : Players) : Type 0 where
-  pub one : StandsWith form.sets_one n (rounds_of variant form root n).regrets_one (rounds_of variant form root n).sum_one players.one
-  pub two : StandsWith form.sets_two n (rounds_of variant form root n).regrets_two (rounds_of variant form root n).sum_two players.two
+  pub one : StandsWith form.sets_one n (rounds_of variant form root n).regrets_one
+      (rounds_of variant form root n).sum_one players.one
+  pub two : StandsWith form.sets_two n (rounds_of variant form root n).regrets_two
+      (rounds_of variant form root n).sum_two players.two
   pub rows_one : length players.rows.one ≡ sequence_count form.sets_one
   pub rows_two : length players.rows.two ≡ sequence_count form.sets_two
 

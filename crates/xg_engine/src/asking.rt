@@ -2,12 +2,12 @@
 ghost use Rattle.std.specs.Prelude.{◌≡◌, ◌≤◌};
 ghost use Rattle.def_fraction.specs.Fraction.{most};
 ghost use Rattle.def_game_numbers.specs.WholeSums.{HasWholeSum};
-ghost use Rattle.xg_cert.specs.Outcome.{head_of};
+ghost use Rattle.xg_outcome.specs.Outcome.{head_of};
 ghost use Rattle.xg_engine.specs.State.{head_with};
 
 use def_command::Settings;
-use xg_cert::Head;
 use xg_numbers::Numbers;
+use xg_outcome::Head;
 use xg_plan::Player;
 
 /// A game's numbers, with what is asked.

@@ -2,11 +2,11 @@
 ghost use Rattle.std.specs.Prelude.{◌≡◌};
 ghost use Rattle.std.specs.Option.{option_map};
 ghost use Rattle.def_run.specs.Run.{outcome_with};
-ghost use Rattle.xg_cert.specs.Outcome.{end_seen, ends_seen, head_of};
+ghost use Rattle.xg_outcome.specs.Outcome.{end_seen, ends_seen, head_of};
 ghost use Rattle.xg_engine.specs.Runs.{ends_of_parts};
 
 use xg_bracket::{Board, BoardParts, PlanAndReply};
-use xg_cert::{End, Head, Outcome};
+use xg_outcome::{End, Head, Outcome};
 
 /// The outcome with the lines and the ends of the board themselves. Takes no memory.
 #[tactic(auto, using(crate::proofs::PartsOfBoard::ends_of_board))]

@@ -4,7 +4,7 @@ ghost use Rattle.def_reply.specs.Bracket.{evaluated_rounds};
 ghost use Rattle.def_run.specs.Run.{outcome_with};
 ghost use Rattle.def_plus.specs.Variants.{rounds_of};
 ghost use Rattle.def_plus_run.specs.VariantRun.{outcome_of};
-ghost use Rattle.xg_cert.specs.Outcome.{head_of};
+ghost use Rattle.xg_outcome.specs.Outcome.{head_of};
 ghost use Rattle.xg_engine.specs.Runs.{IsAfter};
 ghost use Rattle.xg_engine.specs.Sources.{CanMakeRows};
 ghost use Rattle.xg_engine.specs.State.{AreWithinLimits, AreWithinLimitsOf, Asks};
@@ -18,8 +18,8 @@ use def_plus::Variant;
 use std::alloc::{AllocError, Global};
 use std::sync::Wait;
 use std::thread::Threads;
-use xg_cert::{Head, Outcome};
 use xg_jobs::RowMaker;
+use xg_outcome::{Head, Outcome};
 use xg_plan::Plan;
 use xg_seq::SeqForm;
 

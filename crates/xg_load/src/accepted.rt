@@ -3,7 +3,7 @@ ghost use Rattle.std.specs.Prelude.{◌≡◌, IfOk, None};
 ghost use Rattle.def_game_numbers.specs.Numbers.{tables_of};
 ghost use Rattle.def_payoffs.specs.Range.{IsPayoffRange};
 ghost use Rattle.def_program.specs.Text.{game_head};
-ghost use Rattle.xg_cert.specs.Outcome.{head_of};
+ghost use Rattle.xg_outcome.specs.Outcome.{head_of};
 ghost use Rattle.xg_load.specs.Accepted.{Opens};
 ghost use Rattle.def_game_numbers.specs.Weighed.{weighed_game};
 

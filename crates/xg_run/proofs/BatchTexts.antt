@@ -17,7 +17,7 @@ use Rattle.def_plus.specs.declared.Variant.TheVariants.{Plain}
 use Rattle.def_game_numbers.specs.Weighed.{weighed_game}
 use Rattle.def_batch.specs.Batch.{BatchEntry, item_of}
 use Rattle.def_program.specs.BatchText.{file_line, item_text, parts_text}
-use Rattle.xg_cert.specs.Writable.{IsOutcomeOf}
+use Rattle.def_cert_accepted.specs.Writable.{IsOutcomeOf}
 use Rattle.xg_engine.specs.State.{EngineState, head_with}
 use Rattle.def_command.specs.declared.Settings.{Settings}
 use Rattle.xg_batch.specs.Items.{AreItemsOf, IsItemOf, IsPlayedEngine, batch_entry_seen}

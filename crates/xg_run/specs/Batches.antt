@@ -22,7 +22,7 @@ use Rattle.xg_load.specs.declared.ending.Ending.TheVariants as endings
 use Rattle.xg_run.specs.declared.batch_text.Part.{Part}
 use Rattle.xg_run.specs.declared.batch_text.Part.TheVariants.{Game, Fault}
 use Rattle.xg_run.specs.declared.certificate.PlayedText.{PlayedText}
-use Rattle.xg_cert.specs.Writable.{IsOutcomeOf}
+use Rattle.def_cert_accepted.specs.Writable.{IsOutcomeOf}
 
 -- ---- reading
 

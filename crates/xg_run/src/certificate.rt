@@ -19,7 +19,7 @@ impl Writable for PlayedText<'_> {
     ghost use Rattle.def_cert_accepted.specs.OfOutcome.{certificate_of};
     ghost use Rattle.def_cert_versions.specs.Verdict.{in_version_two};
     ghost use Rattle.def_program.specs.Text.{text_of_variant};
-    ghost use Rattle.xg_cert.specs.Writable.{IsOutcomeOf};
+    ghost use Rattle.def_cert_accepted.specs.Writable.{IsOutcomeOf};
 
     ghost bytes = { λ t. text_of_variant t.variant (in_version_two (certificate_of t.form.now t.outcome.now)) };
 

@@ -4,7 +4,7 @@ ghost use Rattle.def_outside.specs.Cause.{HasCause};
 ghost use Rattle.def_file_tokens.specs.Texts.{escaped};
 ghost use Rattle.def_cert_text.specs.CertText.{head_text};
 ghost use Rattle.def_program.specs.Text.{info_front, between_marks};
-ghost use Rattle.xg_cert.specs.Outcome.{head_of};
+ghost use Rattle.xg_outcome.specs.Outcome.{head_of};
 ghost use Rattle.def_outside.specs.Sinks.{Writes};
 
 use std::alloc::{AllocError, Global};

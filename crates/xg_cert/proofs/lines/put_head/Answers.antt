@@ -1,5 +1,5 @@
 use Rattle.std.proofs.Common.{ℕ, List, subst}
-use Rattle.xg_cert.specs.Outcome.{head_of}
+use Rattle.xg_outcome.specs.Outcome.{head_of}
 use Rattle.def_outside.specs.Sinks.{Writes}
 use Rattle.xg_cert.proofs.Written.{head-parts}
 use Rattle.xg_cert.proofs.lines.put_head.Goals as goal

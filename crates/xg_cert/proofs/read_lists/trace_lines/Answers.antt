@@ -5,7 +5,7 @@ use Rattle.def_cert_text.specs.CertText.{evaluation_count, line_of_round, round_
 use Rattle.def_reply.specs.declared.TraceLine.{TraceLine}
 use Rattle.xg_cert.specs.declared.refused.CertRefused.TheVariants.{Cert}
 use Rattle.xg_cert.specs.Answers.{Fails}
-use Rattle.xg_cert.specs.Outcome.{head_of}
+use Rattle.xg_outcome.specs.Outcome.{head_of}
 use Rattle.xg_cert.proofs.ManyRead.{each_done, each_fails, each_goes_on}
 use Rattle.xg_cert.proofs.read_lists.trace_lines.Goals as goal
 

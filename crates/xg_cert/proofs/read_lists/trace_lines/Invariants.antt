@@ -2,7 +2,7 @@ use Rattle.std.proofs.Common.{◌≡◌, ◌-◌, ◌+◌}
 use Rattle.def_cert_text.specs.Formats.{read_each}
 use Rattle.def_cert_text.specs.CertText.{evaluation_count, line_of_round, round_of_evaluation}
 use Rattle.xg_cert.specs.Answers.{behind_front}
-use Rattle.xg_cert.specs.Outcome.{head_of}
+use Rattle.xg_outcome.specs.Outcome.{head_of}
 use Rattle.xg_cert.proofs.read_lists.trace_lines.Given as goal
 
 abbrev pub invariant-rows : goal.invariant-rows

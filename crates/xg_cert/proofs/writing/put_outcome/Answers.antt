@@ -9,8 +9,9 @@ use Rattle.def_cert_verdict.specs.Ranges.{IsFromTo}
 use Rattle.def_game_numbers.specs.WholeSums.{IsWholeIn}
 use Rattle.def_cert_versions.specs.Verdict.{in_version_two}
 use Rattle.xg_cert.specs.declared.bounds.FormBounds.{FormBounds}
-use Rattle.xg_cert.specs.Outcome.{head_of}
-use Rattle.xg_cert.specs.Writable.{AreEndsOf, AreFormBounds, form_bounds, text_under}
+use Rattle.xg_outcome.specs.Outcome.{head_of}
+use Rattle.def_cert_accepted.specs.Writable.{AreEndsOf}
+use Rattle.xg_cert.specs.Writable.{AreFormBounds, form_bounds, text_under}
 use Rattle.xg_cert.proofs.Seconds.{outcome_leaves}
 use Rattle.xg_cert.proofs.writing.put_outcome.Goals as goal
 

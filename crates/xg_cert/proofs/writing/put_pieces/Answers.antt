@@ -2,7 +2,7 @@ use Rattle.std.proofs.Common.{ℕ, List, ◌++◌, rules}
 use Rattle.std.specs.Option.{option_map}
 use Rattle.xg_io.proofs.Pieces.{prefix_first, prefix_then}
 use Rattle.def_cert_text.specs.CertText.{last_text}
-use Rattle.xg_cert.specs.Outcome.{head_of}
+use Rattle.xg_outcome.specs.Outcome.{head_of}
 use Rattle.xg_cert.specs.Writable.{above_text, below_text}
 use Rattle.xg_cert.proofs.writing.put_pieces.Goals as goal
 

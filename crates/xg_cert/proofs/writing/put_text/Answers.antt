@@ -1,7 +1,7 @@
 use Rattle.std.proofs.Common.{ℕ, List, subst}
 use Rattle.std.specs.Option.{option_map}
 use Rattle.def_outside.specs.Sinks.{Writes}
-use Rattle.xg_cert.specs.Outcome.{head_of}
+use Rattle.xg_outcome.specs.Outcome.{head_of}
 use Rattle.xg_cert.proofs.Pieces.{pieces}
 use Rattle.xg_cert.proofs.writing.put_text.Goals as goal
 

@@ -4,7 +4,7 @@ use Rattle.def_reply.specs.Outcome.{Head}
 use Rattle.def_cert_verdict.specs.Certificate.{Certificate}
 use Rattle.def_cert_text.specs.CertText.{versioned_text}
 use Rattle.def_cert_versions.specs.Verdict.{in_version_two}
-use Rattle.xg_cert.specs.Outcome.{head_of}
+use Rattle.xg_outcome.specs.Outcome.{head_of}
 use Rattle.xg_cert.specs.Printed.{bounds_in}
 use Rattle.xg_cert.specs.Writable.{LeavesSecond}
 use Rattle.xg_cert.proofs.Seconds.{upgrade_leaves}

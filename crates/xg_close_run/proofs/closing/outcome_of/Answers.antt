@@ -7,7 +7,7 @@ use Rattle.def_reply.specs.Outcome.{End, OutcomeEnds}
 use Rattle.def_close.specs.Plans.{ends_of_plans, line_of_ends}
 use Rattle.def_program.specs.Text.{form_of_file}
 use Rattle.xg_bracket.specs.declared.parts.PlanAndReply.{PlanAndReply}
-use Rattle.xg_cert.specs.Outcome.{end_seen}
+use Rattle.xg_outcome.specs.Outcome.{end_seen}
 use Rattle.xg_search.specs.Searches.{lower_of, upper_of}
 use Rattle.xg_close_run.proofs.Found.{ends_are, ends_kept}
 use Rattle.xg_close_run.proofs.closing.outcome_of.Goals as goal

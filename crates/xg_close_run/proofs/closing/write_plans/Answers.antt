@@ -14,7 +14,7 @@ use Rattle.def_game_numbers.specs.WholeSums.{HasWholeSum}
 use Rattle.def_program.specs.Text.{form_of_file, game_head}
 use Rattle.def_outside.specs.Sinks.{Writes}
 use Rattle.def_close.specs.Plans.{pair_text, whole_line}
-use Rattle.xg_cert.specs.Writable.{IsOutcomeOf}
+use Rattle.def_cert_accepted.specs.Writable.{IsOutcomeOf}
 use Rattle.xg_search.specs.Searches.{lower_of, upper_of}
 use Rattle.xg_close_run.proofs.Found.{plans_kept, plans_writable, writes_of}
 use Rattle.xg_close_run.proofs.closing.write_plans.Goals as goal

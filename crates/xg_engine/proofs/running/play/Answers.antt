@@ -2,7 +2,7 @@ use Rattle.std.proofs.Common.{ap, sym, ◌∙◌}
 use Rattle.def_reply.specs.Offers.{board_after}
 use Rattle.def_run.specs.Run.{offers_in, outcome_with}
 use Rattle.def_plus_run.specs.VariantRun.{run_of}
-use Rattle.xg_cert.specs.Outcome.{head_of}
+use Rattle.xg_outcome.specs.Outcome.{head_of}
 use Rattle.xg_engine.proofs.running.play.Goals as goal
 
 pub returns-in-Ok-clause-outcome : goal.returns-in-Ok-clause-outcome

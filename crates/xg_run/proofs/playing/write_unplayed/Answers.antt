@@ -7,8 +7,8 @@ use Rattle.def_reply.specs.Outcome.{Head, Outcome}
 use Rattle.def_cert_verdict.specs.Ranges.{IsFromTo}
 use Rattle.def_game_numbers.specs.WholeSums.{HasWholeSum, IsWholeIn}
 use Rattle.def_program.specs.Text.{form_of_file, played_text}
-use Rattle.xg_cert.specs.Outcome.{head_of}
-use Rattle.xg_cert.specs.Writable.{IsOutcomeOf}
+use Rattle.xg_outcome.specs.Outcome.{head_of}
+use Rattle.def_cert_accepted.specs.Writable.{IsOutcomeOf}
 use Rattle.xg_run.proofs.Solved.{tells, writes_of}
 use Rattle.xg_run.proofs.Texts.{outcome_text, unplayed_is}
 use Rattle.xg_run.proofs.playing.write_unplayed.Goals as goal

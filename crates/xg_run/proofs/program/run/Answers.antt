@@ -2,7 +2,7 @@ use Rattle.std.proofs.Common.{ℕ, List, Option, sym, ◌∙◌}
 use Rattle.def_outside.specs.Calls.{FilesCall, SinkCall}
 use Rattle.xg_io.specs.Calls.{files_call, sink_call}
 use Rattle.def_program.specs.Program.{Answer}
-use Rattle.def_program.specs.Bounds.{BoundsHold}
+use Rattle.def_cert_accepted.specs.Bounds.{BoundsHold}
 use Rattle.def_command.specs.Grammar.{command_of_words}
 use Rattle.def_program.specs.Lines.{IsCheck}
 use Rattle.def_program.specs.Meaning.{Means}

@@ -2,7 +2,7 @@ use Rattle.std.proofs.Common.{◌≡◌, ◌++◌, ap, ◌∙◌}
 use Rattle.xg_io.specs.Calls.{sink_call}
 use Rattle.def_cert_text.specs.CertText.{head_text}
 use Rattle.def_program.specs.Text.{info_front, info_text}
-use Rattle.xg_cert.specs.Outcome.{head_of}
+use Rattle.xg_outcome.specs.Outcome.{head_of}
 use Rattle.xg_run.proofs.Solved.{tells}
 use Rattle.xg_run.proofs.program.tell.Goals as goal
 

@@ -13,7 +13,8 @@ best_reply-requires-clause-small g c =
     let form = c.args.source.now.form.now in
     let plans = c.requires.plans in
     small_in_evaluation form Two c.args.one.now c.two.result.now (c.two.ensures ∙ c.in_ok-make.ensures.sums.two)
-    form.sets_one (weight_of_rounds c.args.self.now.board.variant c.args.round * plans.scale) c.requires.source.form.order_one plans.plan_one c.requires.source.form.small_mass plans.small_root
+    form.sets_one (weight_of_rounds c.args.self.now.board.variant c.args.round * plans.scale) c.requires.source.form.order_one plans.plan_one
+    c.requires.source.form.small_mass plans.small_root
 
 pub best_reply-requires-2-clause-rows : goal.best_reply-requires-2-clause-rows
 best_reply-requires-2-clause-rows g c =
@@ -24,7 +25,8 @@ best_reply-requires-2-clause-small g c =
     let form = c.args.source.now.form.now in
     let plans = c.requires.plans in
     small_in_evaluation form One c.args.two.now c.one.result.now (c.one.ensures ∙ c.in_ok-make.ensures.sums.one)
-    form.sets_two (weight_of_rounds c.args.self.now.board.variant c.args.round * plans.scale) c.requires.source.form.order_two plans.plan_two c.requires.source.form.small_mass plans.small_root
+    form.sets_two (weight_of_rounds c.args.self.now.board.variant c.args.round * plans.scale) c.requires.source.form.order_two plans.plan_two
+    c.requires.source.form.small_mass plans.small_root
 
 pub offer-requires-clause-fair : goal.offer-requires-clause-fair
 offer-requires-clause-fair g c =

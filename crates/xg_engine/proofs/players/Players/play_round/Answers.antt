@@ -33,13 +33,15 @@ pub learn_small-requires-clause-small : goal.learn_small-requires-clause-small
 learn_small-requires-clause-small g c =
     let form = c.args.source.now.form.now in
     small_in_round form One c.plan_round-2.new.self.plan c.one.result.now (c.one.ensures ∙ (c.small_rows.ensures.sums c.if-small_rows.true).one)
-    form.sets_two c.args.scale c.requires.source.form.order_two c.plan_round-2.ensures.is_plan c.requires.source.form.small_mass (scale_within c.args.variant c.args.scale c.requires.small_scale)
+    form.sets_two c.args.scale c.requires.source.form.order_two c.plan_round-2.ensures.is_plan c.requires.source.form.small_mass
+    (scale_within c.args.variant c.args.scale c.requires.small_scale)
 
 pub learn_small-requires-then-small_rows-clause-small : goal.learn_small-requires-then-small_rows-clause-small
 learn_small-requires-then-small_rows-clause-small g c =
     let form = c.args.source.now.form.now in
     small_in_round form Two c.plan_round.new.self.plan c.two.result.now (c.two.ensures ∙ (c.small_rows.ensures.sums c.if-small_rows.true).two)
-    form.sets_one c.args.scale c.requires.source.form.order_one c.plan_round.ensures.is_plan c.requires.source.form.small_mass (scale_within c.args.variant c.args.scale c.requires.small_scale)
+    form.sets_one c.args.scale c.requires.source.form.order_one c.plan_round.ensures.is_plan c.requires.source.form.small_mass
+    (scale_within c.args.variant c.args.scale c.requires.small_scale)
 
 pub learn-requires-clause-rows : goal.learn-requires-clause-rows
 learn-requires-clause-rows g c =
@@ -49,7 +51,8 @@ pub learn-requires-clause-small : goal.learn-requires-clause-small
 learn-requires-clause-small g c =
     let form = c.args.source.now.form.now in
     small_in_round form One c.plan_round-2.new.self.plan c.one-2.result.now (c.one-2.ensures ∙ c.in_ok-rows.ensures.one)
-    form.sets_two c.args.scale c.requires.source.form.order_two c.plan_round-2.ensures.is_plan c.requires.source.form.small_mass (scale_within c.args.variant c.args.scale c.requires.small_scale)
+    form.sets_two c.args.scale c.requires.source.form.order_two c.plan_round-2.ensures.is_plan c.requires.source.form.small_mass
+    (scale_within c.args.variant c.args.scale c.requires.small_scale)
 
 pub learn-requires-2-clause-rows : goal.learn-requires-2-clause-rows
 learn-requires-2-clause-rows g c =
@@ -59,7 +62,8 @@ pub learn-requires-2-clause-small : goal.learn-requires-2-clause-small
 learn-requires-2-clause-small g c =
     let form = c.args.source.now.form.now in
     small_in_round form Two c.plan_round.new.self.plan c.two-2.result.now (c.two-2.ensures ∙ c.in_ok-rows.ensures.two)
-    form.sets_one c.args.scale c.requires.source.form.order_one c.plan_round.ensures.is_plan c.requires.source.form.small_mass (scale_within c.args.variant c.args.scale c.requires.small_scale)
+    form.sets_one c.args.scale c.requires.source.form.order_one c.plan_round.ensures.is_plan c.requires.source.form.small_mass
+    (scale_within c.args.variant c.args.scale c.requires.small_scale)
 
 pub returns-then-small_rows-clause-stand : goal.returns-then-small_rows-clause-stand
 returns-then-small_rows-clause-stand g c =
@@ -77,11 +81,22 @@ returns-then-small_rows-clause-stand g c =
     let sums_two = two.sums ∙ ap (λ k. sum_with variant (k + 1) c.args.self.now.two.sum learner_two.plan) c.from-round.ensures in
     let learned_one = c.learn_small.ensures in
     let learned_two = c.learn_small-then-small_rows.ensures in
-    both_learned variant form root n (record { one = learner_one; two = learner_two; rows = c.small_rows.new.rows }) (record { one = c.learn_small.new.self; two = c.learn_small-then-small_rows.new.self; rows = c.small_rows.new.rows })
+    both_learned variant form root n (record { one = learner_one; two = learner_two; rows = c.small_rows.new.rows })
+    (record { one = c.learn_small.new.self; two = c.learn_small-then-small_rows.new.self; rows = c.small_rows.new.rows })
     (has_played variant form.sets_one root n was.regrets_one was.sum_one c.args.self.now.one learner_one stand.one one.play one.plan sums_one one.regrets)
     (has_played variant form.sets_two root n was.regrets_two was.sum_two c.args.self.now.two learner_two stand.two two.play two.plan sums_two two.regrets)
-    (record { room = learned_one.room; regrets = learned_one.regrets learner_two.plan (c.one.ensures ∙ (c.small_rows.ensures.sums c.if-small_rows.true).one); closed = learned_one.closed; sums = learned_one.sums })
-    (record { room = learned_two.room; regrets = learned_two.regrets learner_one.plan (c.two.ensures ∙ (c.small_rows.ensures.sums c.if-small_rows.true).two); closed = learned_two.closed; sums = learned_two.sums })
+    (record {
+      room = learned_one.room;
+      regrets = learned_one.regrets learner_two.plan (c.one.ensures ∙ (c.small_rows.ensures.sums c.if-small_rows.true).one);
+      closed = learned_one.closed;
+      sums = learned_one.sums;
+    })
+    (record {
+      room = learned_two.room;
+      regrets = learned_two.regrets learner_one.plan (c.two.ensures ∙ (c.small_rows.ensures.sums c.if-small_rows.true).two);
+      closed = learned_two.closed;
+      sums = learned_two.sums;
+    })
     (c.small_rows.ensures.count_one ∙ stand.rows_one) (c.small_rows.ensures.count_two ∙ stand.rows_two)
 
 pub returns-clause-stand : goal.returns-clause-stand
@@ -100,9 +115,20 @@ returns-clause-stand g c =
     let sums_two = two.sums ∙ ap (λ k. sum_with variant (k + 1) c.args.self.now.two.sum learner_two.plan) c.from-round.ensures in
     let learned_one = c.learn.ensures in
     let learned_two = c.learn-2.ensures in
-    both_learned variant form root n (record { one = learner_one; two = learner_two; rows = c.small_rows.new.rows }) (record { one = c.learn.new.self; two = c.learn-2.new.self; rows = c.small_rows.new.rows })
+    both_learned variant form root n (record { one = learner_one; two = learner_two; rows = c.small_rows.new.rows })
+    (record { one = c.learn.new.self; two = c.learn-2.new.self; rows = c.small_rows.new.rows })
     (has_played variant form.sets_one root n was.regrets_one was.sum_one c.args.self.now.one learner_one stand.one one.play one.plan sums_one one.regrets)
     (has_played variant form.sets_two root n was.regrets_two was.sum_two c.args.self.now.two learner_two stand.two two.play two.plan sums_two two.regrets)
-    (record { room = learned_one.room; regrets = learned_one.regrets learner_two.plan (c.one-2.ensures ∙ c.in_ok-rows.ensures.one); closed = learned_one.closed; sums = learned_one.sums })
-    (record { room = learned_two.room; regrets = learned_two.regrets learner_one.plan (c.two-2.ensures ∙ c.in_ok-rows.ensures.two); closed = learned_two.closed; sums = learned_two.sums })
+    (record {
+      room = learned_one.room;
+      regrets = learned_one.regrets learner_two.plan (c.one-2.ensures ∙ c.in_ok-rows.ensures.one);
+      closed = learned_one.closed;
+      sums = learned_one.sums;
+    })
+    (record {
+      room = learned_two.room;
+      regrets = learned_two.regrets learner_one.plan (c.two-2.ensures ∙ c.in_ok-rows.ensures.two);
+      closed = learned_two.closed;
+      sums = learned_two.sums;
+    })
     (c.small_rows.ensures.count_one ∙ stand.rows_one) (c.small_rows.ensures.count_two ∙ stand.rows_two)

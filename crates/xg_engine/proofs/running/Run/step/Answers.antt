@@ -48,7 +48,8 @@ returns-in_ok-evaluate g c =
     record {
       players = stand;
       room = subst (λ k. CanEvaluate c.args.variant form k c.evaluate.new.self) run.room.capacity room;
-      board = evaluated_once_more c.args.variant form settings n players.one.sum players.two.sum before after stand.one.sums_are stand.two.sums_are run.board is_after due;
+      board = evaluated_once_more c.args.variant form settings n players.one.sum players.two.sum before after stand.one.sums_are stand.two.sums_are
+          run.board is_after due;
       last = last_is_now c.args.variant form settings n players.one.sum players.two.sum before after stand.one.sums_are stand.two.sums_are run.board is_after;
     }
 
@@ -61,6 +62,7 @@ returns-else-round-settings g c =
     record {
       players = c.in_ok-play_round.ensures.stand;
       room = run.room;
-      board = run.board ∙ ap board_after (sym (offers_same c.args.variant form settings n (not_due c.args.variant form settings n c.if-round-settings-eq0.false c.if-round-settings.false)));
+      board = run.board ∙ ap board_after
+          (sym (offers_same c.args.variant form settings n (not_due c.args.variant form settings n c.if-round-settings-eq0.false c.if-round-settings.false)));
       last = omega (arith, run.last);
     }

@@ -1,6 +1,6 @@
 //! The outcome of a run: its trace, and both ends of its bracket.
 ghost use Rattle.std.specs.Prelude.{◌≡◌};
-ghost use Rattle.xg_cert.specs.Outcome.{head_of, outcome_seen, shown_ends};
+ghost use Rattle.xg_outcome.specs.Outcome.{head_of, outcome_seen, shown_ends};
 
 use crate::head::Head;
 use def_reply::TraceLine;
@@ -26,7 +26,7 @@ pub struct Outcome {
 
 impl Model for Outcome {
     ghost use Rattle.def_reply.specs.Outcome as kept;
-    ghost use Rattle.xg_cert.specs.Outcome.{outcome_seen};
+    ghost use Rattle.xg_outcome.specs.Outcome.{outcome_seen};
 
     ghost Value = { kept.Outcome };
 

@@ -3,8 +3,8 @@ use Rattle.std.specs.Prelude.{List, Option, Some, None}
 use Rattle.std.specs.Borrow.{Bor}
 use Rattle.def_reply.specs.declared.TraceLine.{TraceLine}
 use Rattle.def_reply.specs.Outcome as kept
-use Rattle.xg_cert.specs.declared.head.Head.{Head}
-use Rattle.xg_cert.specs.declared.outcome.End.{End}
+use Rattle.xg_outcome.specs.declared.head.Head.{Head}
+use Rattle.xg_outcome.specs.declared.outcome.End.{End}
 
 abbrev pub head_of : Head → kept.Head
 head_of head = record {

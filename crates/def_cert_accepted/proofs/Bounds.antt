@@ -11,8 +11,8 @@ use Rattle.def_cert_verdict.specs.Certificate.{PrintedBounds, printed_numbers}
 use Rattle.def_plan.specs.Weighed.{WeighedGame}
 use Rattle.def_cert_verdict.specs.Laws.{ShowsItsBoundsBy}
 use Rattle.def_plus.specs.declared.Variant.{Variant}
-use Rattle.def_program.specs.Bounds.{BoundsHold, ConcedesHigh, GapIsExploitability, GetsLow, NoPlanDoesBetter}
-use Rattle.def_program.specs.Bounds.{RepliesAttain, TraceNarrows}
+use Rattle.def_cert_accepted.specs.Bounds.{BoundsHold, ConcedesHigh, GapIsExploitability, GetsLow, NoPlanDoesBetter}
+use Rattle.def_cert_accepted.specs.Bounds.{RepliesAttain, TraceNarrows}
 
 -- x / d is best / (unit * own); over the unit and both roots
 over_both : (x best : ℤ) (d other unit own root : ℕ) → x *ℤ pos (unit * own) ≡ best *ℤ pos d
