@@ -16,7 +16,8 @@ pub record IsEndOf (own others : List InformationSet) (end : End) : Type 0 where
 
 abbrev pub AreEndsOf : SequenceForm → Option OutcomeEnds → Type 0
 AreEndsOf form None = Unit {0}
-AreEndsOf form (Some ends) = IsEndOf form.sets_one form.sets_two ends.lower × IsEndOf form.sets_two form.sets_one ends.upper
+AreEndsOf form (Some ends) = IsEndOf form.sets_one form.sets_two ends.lower
+    × IsEndOf form.sets_two form.sets_one ends.upper
 
 pub record IsOutcomeOf (form : SequenceForm) (outcome : Outcome) : Type 0 where
   pub unit : IsFromTo 1 most outcome.head.unit

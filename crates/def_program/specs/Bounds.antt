@@ -4,7 +4,8 @@
 --     HasItsBounds               they are there, and hold
 --     PlayedPart, IsPlayed       a game that words play, with what is written before and behind its text
 --     ForEachPlayed              what holds of the bounds that were written of the games that words play
-use Rattle.std.specs.Prelude.{◌≡◌, ℕ, ◌+◌, ◌≤◌, List, [], ◌∷◌, ◌++◌, map, length, Option, Some, None, IsSomeAnd, Result, Ok}
+use Rattle.std.specs.Prelude.{◌≡◌, ℕ, ◌+◌, ◌≤◌, List, [], ◌∷◌, ◌++◌, map, length, Option, Some, None, IsSomeAnd, Result}
+use Rattle.std.specs.Prelude.{Ok}
 use Rattle.def_outside.specs.Calls.{SinkCall, Wrote}
 use Rattle.def_file.specs.declared.FileFault.{FileFault}
 use Rattle.def_file.specs.Content.{GameFile}

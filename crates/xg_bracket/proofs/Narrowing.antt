@@ -1,5 +1,6 @@
 -- The ends never worsen, so a line lies within each earlier one.
-use Rattle.std.proofs.Common.{◌≡◌, ℕ, zero, suc, ◌+◌, ◌^◌, ◌<◌, ◌≤◌, Bool, true, false, cond, List, [], ◌∷◌, ◌++◌, All, length, get_or, ℤ, pos, ◌*ℤ◌, ◌≤ℤ◌, unsigned_abs, int_lt, refl, ap, sym, subst, ◌∙◌, arith, length-append, ⊎_elim}
+use Rattle.std.proofs.Common.{◌≡◌, ℕ, zero, suc, ◌+◌, ◌^◌, ◌<◌, ◌≤◌, Bool, true, false, cond, List, [], ◌∷◌, ◌++◌, All, length, get_or, ℤ, pos, ◌*ℤ◌, ◌≤ℤ◌}
+use Rattle.std.proofs.Common.{unsigned_abs, int_lt, refl, ap, sym, subst, ◌∙◌, arith, length-append, ⊎_elim}
 use Rattle.std.proofs.lemmas.List.{get_or_at}
 use Rattle.std.proofs.lemmas.List.Elements.{All-push}
 use Rattle.def_sums.proofs.RingLaws.{≤ℤ_refl}

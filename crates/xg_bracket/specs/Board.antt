@@ -79,7 +79,8 @@ sized_board variant lines capacity lower upper = record {
 }
 
 -- there is room for all lines, and what is kept lies within each of them
-pub record KeepsBoard (variant : Variant) (lines : List TraceLine) (room capacity : ℕ) (lower upper : BestEnd) : Type 0 where
+pub record KeepsBoard (variant : Variant) (lines : List TraceLine) (room capacity : ℕ) (lower upper : BestEnd) : Type
+    0 where
   pub within : length lines ≤ capacity
   pub reserved : capacity ≤ room
   pub lower_end : IsEnd lower

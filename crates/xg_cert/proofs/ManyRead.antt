@@ -1,5 +1,6 @@
 -- Reading lines or numbers one after another, as a loop does.
-use Rattle.std.proofs.Common.{◌≡◌, ℕ, suc, ◌-◌, ◌+◌, ◌≤◌, ◌<◌, Bool, true, false, List, [], ◌∷◌, ◌++◌, Result, Ok, Err, refl, sym, ap, ◌∙◌, append_assoc, arith, length, ℤ}
+use Rattle.std.proofs.Common.{◌≡◌, ℕ, suc, ◌-◌, ◌+◌, ◌≤◌, ◌<◌, Bool, true, false, List, [], ◌∷◌, ◌++◌, Result, Ok, Err, refl, sym, ap, ◌∙◌, append_assoc, arith}
+use Rattle.std.proofs.Common.{length, ℤ}
 use Rattle.std.proofs.lemmas.List.{append-nil}
 use Rattle.def_cert_text.specs.declared.fault.CertFault.{CertFault}
 use Rattle.def_cert_text.specs.Fields.{◌>>=◌, feed}
@@ -25,7 +26,9 @@ pub each_goes_on : {A : Type 0} (f : ℕ → Format A) (front : List A) (count i
 unfolding read_each
 each_goes_on f front count i total bytes x left all more one so_far =
     let k : count - i ≡ suc (count - (i + 1)) = omega arith in
-    let step : behind_front front (read_each f (i + 1) (count - i) total bytes) ≡ behind_front (front ++ x ∷ []) (read_each f (i + 1 + 1) (count - (i + 1)) total left) = rw (k, one) (regroup front x (read_each f (i + 1 + 1) (count - (i + 1)) total left)) in
+    let step : behind_front front (read_each f (i + 1) (count - i) total bytes)
+    ≡ behind_front (front ++ x ∷ []) (read_each f (i + 1 + 1) (count - (i + 1)) total left) = rw (k, one)
+    (regroup front x (read_each f (i + 1 + 1) (count - (i + 1)) total left)) in
     sym step ∙ so_far
 
 -- a fault on the way is the fault of all
@@ -61,7 +64,8 @@ pub row_goes_on : (most : ℕ) (front : List ℕ) (more i total : ℕ) (bytes : 
 unfolding read_row
 row_goes_on most front more i total bytes n last left all there one not_last so_far =
     let k : more - i ≡ suc (more - (i + 1)) = omega arith in
-    let step : behind_front front (read_row most (more - i) total bytes) ≡ behind_front (front ++ n ∷ []) (read_row most (more - (i + 1)) total left) = rw (k, one, not_last) (regroup front n (read_row most (more - (i + 1)) total left)) in
+    let step : behind_front front (read_row most (more - i) total bytes) ≡ behind_front (front ++ n ∷ []) (read_row most (more - (i + 1)) total left) = rw
+    (k, one, not_last) (regroup front n (read_row most (more - (i + 1)) total left)) in
     sym step ∙ so_far
 
 -- a number that is the last of its line ends the row: all that is read is the front and this number
@@ -139,4 +143,5 @@ pub set_replies-push : (values : List ℤ) (choices : List ℕ) (value : ℤ) (c
 set_replies-push [] [] value choice same = refl
 set_replies-push [] (c ∷ cs) value choice same = absurd (omega arith)
 set_replies-push (v ∷ vs) [] value choice same = absurd (omega arith)
-set_replies-push (v ∷ vs) (c ∷ cs) value choice same = ap (λ (rs : List SetReply). record { value = v; choice = c } ∷ rs) (set_replies-push vs cs value choice (omega arith))
+set_replies-push (v ∷ vs) (c ∷ cs) value choice same = ap (λ (rs : List SetReply). record { value = v; choice = c } ∷ rs)
+    (set_replies-push vs cs value choice (omega arith))

@@ -6,7 +6,8 @@ use Rattle.def_cert_verdict.specs.Certificate.{PrintedBounds}
 use Rattle.def_cert_text.specs.Fields.{items_text}
 use Rattle.def_cert_text.specs.Formats.{Format, text_of, each_items}
 use Rattle.def_cert_text.specs.declared.version.TextVersion.TheVariants as versions
-use Rattle.def_cert_text.specs.CertText.{line_of_round, round_of_evaluation, trace_lines, bracket_line, bounds_text, versioned_text, head_text_of, first_text_of, asked_text, second_text, last_text}
+use Rattle.def_cert_text.specs.CertText.{line_of_round, round_of_evaluation, trace_lines, bracket_line, bounds_text, versioned_text, head_text_of}
+use Rattle.def_cert_text.specs.CertText.{first_text_of, asked_text, second_text, last_text}
 use Rattle.def_cert_text.specs.PlusText.{below_first_text, plus_line}
 use Rattle.def_cert_text.specs.Versions.{VersionedCertificate}
 use Rattle.def_cert_text.proofs.PlusTexts.{first_lines}

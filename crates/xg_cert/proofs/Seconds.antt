@@ -48,7 +48,8 @@ sum-small unit root sum some few is =
 pub left-over : (unit root : ℕ) (sum end : Fraction) → 1 ≤ unit → IsWholeIn unit sum → IsWholeEnd unit root end
     → fraction_of (weight_of (unit * root) sum -ℤ weight_of (unit * root) end) (unit * root) ≡ difference_of sum end
 left-over unit root sum end some is whole =
-    difference-by_weights (unit * root) sum end (one-le-mul some whole.of_root.0) (some_sum unit sum some is) whole.some (sum_divides unit root sum is) whole.whole
+    difference-by_weights (unit * root) sum end (one-le-mul some whole.of_root.0) (some_sum unit sum some is) whole.some (sum_divides unit root sum is)
+    whole.whole
 
 -- ---- the ends of an outcome
 whole_bound : (unit : ℕ) (end : End) → IsFromTo 1 most unit → IsFromTo 1 most_root (slice_index end.plan 0)
@@ -78,7 +79,13 @@ outcome_leaves head b are same sum =
 turned : (unit root : ℕ) (end : Fraction) → IsFromTo 1 most_root root → 1 ≤ end.den → EndTurns unit root end
     → IsWholeEnd unit root end
 turned unit root end of_root some turns =
-    record { of_root = of_root; some = some; whole = turns.whole; small = omega (arith, weight-small unit root end some turns.whole turns.small, mul-le-mul_left most of_root.1) }
+    record {
+      of_root = of_root;
+      some = some;
+      whole = turns.whole;
+      small = omega
+          (arith, weight-small unit root end some turns.whole turns.small, mul-le-mul_left most of_root.1);
+    }
 
 read_leaves : (head : Head) (b : PrintedBounds) → HeadFits head → BoundsFit head b → IsWholeIn head.unit head.sum
     → EndTurns head.unit b.plan_one.root b.low × EndTurns head.unit b.plan_two.root b.high → LeavesSecond head b

@@ -1,5 +1,6 @@
 -- What can be written, and the texts of its parts.
-use Rattle.std.specs.Prelude.{◌≡◌, ℕ, ◌*◌, ◌≤◌, List, [], ◌++◌, codes, length, slice_index, unsigned_abs, Option, Some, None}
+use Rattle.std.specs.Prelude.{◌≡◌, ℕ, ◌*◌, ◌≤◌, List, [], ◌++◌, codes, length, slice_index, unsigned_abs, Option, Some}
+use Rattle.std.specs.Prelude.{None}
 use Rattle.std.specs.Int.{◌∣◌}
 use Rattle.def_fraction.specs.Fraction.{Fraction, most}
 use Rattle.def_game_scale.specs.Scale.{weight_of}

@@ -4,7 +4,8 @@ use Rattle.std.specs.Fmt.{decimal}
 use Rattle.def_reply.specs.Outcome.{Head}
 use Rattle.def_cert_text.specs.Fields.{space, fixed_word, number, field, separator, items_text}
 use Rattle.def_cert_text.specs.Formats.{text_of}
-use Rattle.def_cert_text.specs.CertText.{size_line, sets_line, sequences_line, unit_line, mass_line, unit_alone_line, sum_line}
+use Rattle.def_cert_text.specs.CertText.{size_line, sets_line, sequences_line, unit_line, mass_line, unit_alone_line}
+use Rattle.def_cert_text.specs.CertText.{sum_line}
 use Rattle.def_cert_text.specs.declared.version.TextVersion.{TextVersion}
 use Rattle.def_cert_text.specs.declared.version.TextVersion.TheVariants as versions
 
@@ -14,7 +15,8 @@ field_text bytes sep = bytes ++ sep ∷ []
 
 -- a word and a number
 abbrev pub named_text : List ℕ → ℕ → ℕ → List ℕ
-named_text word n sep = items_text (field fixed_word word ∷ separator space ∷ field number (decimal n) ∷ separator sep ∷ [])
+named_text word n sep = items_text (field fixed_word word ∷ separator space ∷ field number (decimal n) ∷ separator sep
+    ∷ [])
 
 -- the lines 2 to 4, and those of the unit, the sum and the mass
 abbrev pub counts_text : Head → List ℕ

@@ -12,11 +12,11 @@ ghost use Rattle.xg_cert.specs.Printed.{bounds_in, plan_in, reply_in};
 ghost use Rattle.xg_cert.specs.Writable.{AreFormBounds, end_in, form_bounds, reply_end_in};
 
 use crate::cert::Cert;
-use xg_outcome::End;
 use crate::scales::scale_of;
 use def_reply::TraceLine;
 use def_tree::Player;
 use xg_frac::{Ratio, ratio};
+use xg_outcome::End;
 use xg_seq::SeqForm;
 
 /// What the lines from the trace to the bracket are written from.

@@ -9,13 +9,13 @@ ghost use Rattle.xg_outcome.specs.Outcome.{head_of};
 ghost use Rattle.xg_cert.specs.Printed.{bounds_in, plan_in, reply_in, set_count_in};
 ghost use Rattle.xg_cert.specs.ReadCert.{bounds_of, second_where_given, version_number};
 
-use xg_outcome::Head;
 use crate::printed::{PlanLines, ReplyLines};
 use def_cert_text::TextVersion;
 use def_reply::TraceLine;
 use def_tree::Player;
 use std::marker::Model;
 use xg_frac::{Frac, Ratio};
+use xg_outcome::Head;
 
 /// All lines from the trace to the bracket.
 #[derive(Drop)]

@@ -11,11 +11,11 @@ ghost use Rattle.xg_cert.specs.Writable.{opening_line};
 ghost use Rattle.def_outside.specs.Sinks.{Writes};
 
 use crate::fields::{put_field, put_fraction, put_signed, put_whole};
-use xg_outcome::Head;
 use crate::lines::put_named;
 use def_reply::TraceLine;
 use xg_frac::Ratio;
 use xg_io::{Sink, WriteFault, write_all};
+use xg_outcome::Head;
 
 /// What the first line says of the lines below.
 #[derive(Clone, Copy)]
@@ -59,7 +59,8 @@ pub(crate) fn put_asked<O: Sink>(head: &Head, out: &mut O) -> Result<(), WriteFa
 fn put_steps<O: Sink>(every: u32, scale: u32, out: &mut O) -> Result<(), WriteFault>
     ensures text { Writes (O.written out.old) (O.written out.new)
         (items_text (field fixed_word (codes "every") ∷ separator space ∷ field number (decimal every) ∷ separator space
-        ∷ field fixed_word (codes "scale") ∷ separator space ∷ field number (decimal scale) ∷ separator feed ∷ [])) result }
+        ∷ field fixed_word (codes "scale") ∷ separator space ∷ field number (decimal scale) ∷ separator feed ∷ []))
+        result }
     ensures cause { HasCause (O.faults out.old) (O.faults out.new) result }
 {
     put_named(b"every", every as u64, b' ', out)?;
@@ -79,8 +80,10 @@ pub(crate) fn put_trace_line<O: Sink>(row: &TraceLine, out: &mut O) -> Result<()
 #[tactic(auto, using(crate::proofs::Written::first_two, crate::proofs::Written::then_two))]
 fn put_traced_ends<O: Sink>(row: &TraceLine, out: &mut O) -> Result<(), WriteFault>
     ensures text { Writes (O.written out.old) (O.written out.new)
-        (items_text (field number (decimal row.now.low_round) ∷ separator space ∷ field number (signed_decimal row.now.low) ∷ separator space
-        ∷ field number (decimal row.now.high_round) ∷ separator space ∷ field number (signed_decimal row.now.high) ∷ separator feed ∷ [])) result }
+        (items_text (field number (decimal row.now.low_round) ∷ separator space
+        ∷ field number (signed_decimal row.now.low) ∷ separator space
+        ∷ field number (decimal row.now.high_round) ∷ separator space ∷ field number (signed_decimal row.now.high)
+        ∷ separator feed ∷ [])) result }
     ensures cause { HasCause (O.faults out.old) (O.faults out.new) result }
 {
     put_traced(row.low_round, row.low, b' ', out)?;
@@ -91,7 +94,8 @@ fn put_traced_ends<O: Sink>(row: &TraceLine, out: &mut O) -> Result<(), WriteFau
 #[tactic(auto, using(crate::proofs::Written::first_field, crate::proofs::Written::then_field, crate::proofs::Written::last_field))]
 fn put_traced<O: Sink>(round: u32, total: i128, end: u8, out: &mut O) -> Result<(), WriteFault>
     ensures text { Writes (O.written out.old) (O.written out.new)
-        (items_text (field number (decimal round) ∷ separator space ∷ field number (signed_decimal total) ∷ separator end ∷ [])) result }
+        (items_text (field number (decimal round) ∷ separator space ∷ field number (signed_decimal total)
+        ∷ separator end ∷ [])) result }
     ensures cause { HasCause (O.faults out.old) (O.faults out.new) result }
 {
     put_whole(round as u64, b' ', out)?;
@@ -104,7 +108,8 @@ pub(crate) fn put_value_line<O: Sink>(
     choice: u32,
     out: &mut O,
 ) -> Result<(), WriteFault>
-    ensures text { Writes (O.written out.old) (O.written out.new) (text_of (value_line set) (record { value = value; choice = choice })) result }
+    ensures text { Writes (O.written out.old) (O.written out.new)
+        (text_of (value_line set) (record { value = value; choice = choice })) result }
     ensures cause { HasCause (O.faults out.old) (O.faults out.new) result }
 {
     put_named(b"value", set as u64, b' ', out)?;

@@ -12,16 +12,18 @@ ghost use Rattle.xg_outcome.specs.Outcome.{head_of};
 ghost use Rattle.xg_cert.specs.Writes.{counts_text, named_text, units_text};
 
 use crate::fields::{put_field, put_fraction, put_whole};
-use xg_outcome::Head;
 use def_cert_text::TextVersion;
 use xg_frac::{Frac, Ratio, ratio};
 use xg_io::{Sink, WriteFault};
+use xg_outcome::Head;
 
 /// Writes the lines 2 to 6 of a text of version 1, which are the game's. After an error a front of them was written.
 /// Takes no memory.
 pub fn write_head<O: Sink>(head: &Head, out: &mut O) -> Result<(), WriteFault>
-    ensures appended { OnOk result (O.written out.new ≡ append_known (O.written out.old) (head_text (head_of head.now))) }
-    ensures prefix { OnErr result (AppendsPrefix (O.written out.old) (O.written out.new) (head_text (head_of head.now))) }
+    ensures appended { OnOk result (O.written out.new ≡ append_known (O.written out.old)
+        (head_text (head_of head.now))) }
+    ensures prefix { OnErr result (AppendsPrefix (O.written out.old) (O.written out.new)
+        (head_text (head_of head.now))) }
     ensures cause { HasCause (O.faults out.old) (O.faults out.new) result }
 {
     put_head(TextVersion::One, head, out)
@@ -122,7 +124,8 @@ fn put_size_line<O: Sink>(nodes: u32, leaves: u32, out: &mut O) -> Result<(), Wr
 #[tactic(auto, using(crate::proofs::Written::first_two, crate::proofs::Written::then_two, crate::proofs::Written::last_field))]
 fn put_pair_line<O: Sink>(word: &[u8], pair: (u32, u32), out: &mut O) -> Result<(), WriteFault>
     ensures text { Writes (O.written out.old) (O.written out.new)
-        (items_text (field fixed_word word.now ∷ separator space ∷ field number (decimal pair.0) ∷ separator space ∷ field number (decimal pair.1) ∷ separator feed ∷ []))
+        (items_text (field fixed_word word.now ∷ separator space ∷ field number (decimal pair.0) ∷ separator space
+        ∷ field number (decimal pair.1) ∷ separator feed ∷ []))
         result }
     ensures cause { HasCause (O.faults out.old) (O.faults out.new) result }
 {

@@ -16,7 +16,8 @@ use def_tree::Player;
 use xg_io::{Sink, WriteFault};
 
 pub(crate) fn put_trace<O: Sink>(rows: &[TraceLine], out: &mut O) -> Result<(), WriteFault>
-    ensures text { Writes (O.written out.old) (O.written out.new) (items_text (each_items line_of_round 1 rows.now)) result }
+    ensures text { Writes (O.written out.old) (O.written out.new) (items_text (each_items line_of_round 1 rows.now))
+        result }
     ensures cause { HasCause (O.faults out.old) (O.faults out.new) result }
 {
     'rows: for i in 0..rows.len() {

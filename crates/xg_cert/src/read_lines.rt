@@ -13,13 +13,13 @@ ghost use Rattle.xg_cert_fields.specs.Reading.{GivesValue};
 ghost use Rattle.xg_outcome.specs.Outcome.{head_of};
 ghost use Rattle.xg_cert.specs.ReadCert.{bracket_between, set_reply_of, asked_of};
 
-use xg_outcome::Head;
 use def_cert_text::{CertFault, TextVersion};
 use def_reply::TraceLine;
 use def_sums::{MOST_MASS, MOST_ROUNDS, MOST_SCALE};
 use itoa::Buffer;
 use xg_cert_fields::FieldReader;
 use xg_frac::{Frac, MOST_PART, Ratio, zero};
+use xg_outcome::Head;
 use xg_tree::{MOST_ACTIONS, MOST_NODES};
 
 /// What was asked of a run.
@@ -177,7 +177,8 @@ pub(crate) fn head_lines(
 
 /// The line of the evaluation after a round.
 pub(crate) fn trace_line(reader: &mut FieldReader<'_>, round: u32) -> Result<TraceLine, CertFault>
-    ensures exact { GivesValue (λ line. line) result reader.new.left ((line_of_round round).read reader.old.total reader.old.left) }
+    ensures exact { GivesValue (λ line. line) result reader.new.left
+        ((line_of_round round).read reader.old.total reader.old.left) }
     ensures total { reader.new.total ≡ reader.old.total }
 {
     let latest = round as u64;
@@ -208,7 +209,8 @@ pub(crate) fn set_number(reader: &mut FieldReader<'_>, set: u32) -> Result<(), C
 
 /// The line of a set in a reply.
 pub(crate) fn value_line(reader: &mut FieldReader<'_>, set: u32) -> Result<ValueLine, CertFault>
-    ensures exact { GivesValue set_reply_of result reader.new.left ((value_line set).read reader.old.total reader.old.left) }
+    ensures exact { GivesValue set_reply_of result reader.new.left
+        ((value_line set).read reader.old.total reader.old.left) }
     ensures total { reader.new.total ≡ reader.old.total }
 {
     reader.word(b"value", b' ')?;
@@ -226,7 +228,8 @@ pub(crate) fn bracket_line(reader: &mut FieldReader<'_>) -> Result<(Ratio, Ratio
 }
 
 pub(crate) fn second_line(reader: &mut FieldReader<'_>) -> Result<(Ratio, Ratio), CertFault>
-    ensures exact { GivesValue bracket_between result reader.new.left (second_line.read reader.old.total reader.old.left) }
+    ensures exact { GivesValue bracket_between result reader.new.left
+        (second_line.read reader.old.total reader.old.left) }
     ensures total { reader.new.total ≡ reader.old.total }
 {
     let ends = ends_line(reader, b"second")?;

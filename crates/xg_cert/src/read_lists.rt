@@ -3,12 +3,12 @@ ghost use Rattle.std.specs.Prelude.{◌≡◌, ◌-◌, ◌+◌, ◌*◌, ◌/�
 ghost use Rattle.def_sums.specs.Limits.{most_root, most_rounds};
 ghost use Rattle.def_tree.specs.Rules.{most_actions, most_nodes};
 ghost use Rattle.def_cert_text.specs.Formats.{read_each, read_row};
-ghost use Rattle.def_cert_text.specs.CertText.{evaluation_count, line_of_round, round_of_evaluation, trace_lines, value_line, weights_line};
+ghost use Rattle.def_cert_text.specs.CertText.{evaluation_count, line_of_round, round_of_evaluation, trace_lines};
+ghost use Rattle.def_cert_text.specs.CertText.{value_line, weights_line};
 ghost use Rattle.xg_cert_fields.specs.Reading.{GivesValue};
 ghost use Rattle.xg_outcome.specs.Outcome.{head_of};
 ghost use Rattle.xg_cert.specs.Answers.{Extends, GivesValueFor};
 
-use xg_outcome::Head;
 use crate::printed::{PlanLines, ReplyLines};
 use crate::read_lines::{set_number, trace_line, value_line};
 use crate::refused::CertRefused;
@@ -17,6 +17,7 @@ use def_reply::TraceLine;
 use def_sums::MOST_ROOT;
 use std::alloc::Global;
 use xg_cert_fields::FieldReader;
+use xg_outcome::Head;
 use xg_tree::MOST_ACTIONS;
 
 /// How many numbers may follow the first one of a set.

@@ -15,7 +15,6 @@ ghost use Rattle.xg_cert.specs.ReadCert.{second_where_given};
 ghost use Rattle.xg_cert_fields.specs.Reading.{GivesValue};
 
 use crate::cert::{BoundsLines, Cert, CertLines};
-use xg_outcome::Head;
 use crate::printed::{PlanLines, ReplyLines};
 use crate::read_lines::{bracket_line, head_lines, second_line};
 use crate::read_lists::{trace_lines, value_lines, weights_lines};
@@ -25,6 +24,7 @@ use def_sums::MOST_ROOT;
 use std::alloc::Global;
 use xg_cert_fields::FieldReader;
 use xg_frac::Ratio;
+use xg_outcome::Head;
 
 /// Reads a certificate from the bytes of its text, of either version.
 ///

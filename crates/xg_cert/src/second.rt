@@ -32,8 +32,8 @@ fn left(f: Ratio, g: Ratio, whole: u128) -> i128
     times(f, whole) - times(g, whole)
 }
 
-/// What the sum leaves of an end of player one's bracket, over the unit and the root of the end's plan: the other end of
-/// player two's.
+/// What the sum leaves of an end of player one's bracket, over the unit and the root of the end's plan: the other end
+/// of player two's.
 pub fn second_end(sum: Frac, unit: u64, root: u64, end: Ratio) -> Ratio
     requires unit { IsFromTo 1 most unit }
     requires sum { IsWholeIn unit sum }

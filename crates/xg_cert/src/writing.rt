@@ -21,14 +21,13 @@ use crate::bounds::{Bounds, FormBounds};
 use crate::cert::Cert;
 use crate::cert_lines::{FirstLine, put_asked, put_ends_line, put_first_line, put_last_line};
 use crate::fields::{put_field, put_signed};
-use xg_outcome::Head;
 use crate::lines::{put_head, put_named};
 use crate::lists::{put_trace, put_values, put_weights};
-use xg_outcome::Outcome;
 use crate::second::second_end;
 use def_cert_text::TextVersion;
 use def_tree::Player;
 use xg_io::{Sink, WriteFault};
+use xg_outcome::{Head, Outcome};
 use xg_seq::SeqForm;
 
 /// A plan of the player that the digit names.

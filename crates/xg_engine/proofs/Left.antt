@@ -19,7 +19,7 @@ use Rattle.def_cert_accepted.proofs.Outcomes.{outcomes_have_bounds}
 use Rattle.xg_engine.specs.Left.{HasBoundsOf, IsLeftOf}
 use Rattle.xg_engine.specs.Players.{IsSoundForm}
 use Rattle.xg_engine.specs.State.{AreWithinLimitsOf, EngineState, head_with, sums_of}
-use Rattle.xg_engine.specs.declared.settings.Settings.{Settings}
+use Rattle.def_command.specs.declared.Settings.{Settings}
 use Rattle.xg_engine.proofs.Writable.{outcome_is_writable}
 
 -- the head that is made of a game is the game's

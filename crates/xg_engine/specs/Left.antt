@@ -9,7 +9,7 @@ use Rattle.def_cert_accepted.specs.Bounds.{BoundsHold}
 use Rattle.def_cert_accepted.specs.OfOutcome.{certificate_of}
 use Rattle.def_cert_accepted.specs.Writable.{IsOutcomeOf}
 use Rattle.xg_engine.specs.State.{EngineState, head_with, sums_of}
-use Rattle.xg_engine.specs.declared.settings.Settings.{Settings}
+use Rattle.def_command.specs.declared.Settings.{Settings}
 
 -- what is printed of the outcome has bounds, and they hold
 abbrev pub HasBoundsOf : Variant → WeighedGame → ℕ → Outcome → Type 0

@@ -14,8 +14,8 @@ ghost use Rattle.xg_jobs.specs.Table.{HasLeavesOf, Serves};
 
 use crate::asking::head_with;
 use crate::running::{FinishedRun, play};
-use def_command::Settings;
 use crate::source::RowSource;
+use def_command::Settings;
 use def_plus::Variant;
 use std::alloc::{AllocError, Global};
 use std::marker::Model;

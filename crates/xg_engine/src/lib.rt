@@ -10,6 +10,6 @@ mod running;
 mod source;
 
 pub use asking::head_with;
+pub use def_command::Settings;
 pub use def_plus::Variant;
 pub use engine::Engine;
-pub use def_command::Settings;

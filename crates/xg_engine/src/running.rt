@@ -12,8 +12,8 @@ ghost use Rattle.xg_engine.specs.State.{AreWithinLimits, AreWithinLimitsOf, Asks
 use crate::evaluating::Evaluator;
 use crate::finishing::outcome_with;
 use crate::players::Players;
-use def_command::Settings;
 use crate::source::RowSource;
+use def_command::Settings;
 use def_plus::Variant;
 use std::alloc::{AllocError, Global};
 use std::sync::Wait;

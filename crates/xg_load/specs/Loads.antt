@@ -25,7 +25,8 @@ Loads told result = LoadsBy read_as_accepted told result
 
 -- a game that was read is accepted, or refused with its first fault
 abbrev pub AcceptsOrRefuses : GameFile → Result GameFile LoadFault → Type 0
-AcceptsOrRefuses game (Ok accepted_game) = (accepted_game ≡ game) × (unless_faulty (game_file_fault game) game ≡ Ok game)
+AcceptsOrRefuses game (Ok accepted_game) = (accepted_game ≡ game)
+    × (unless_faulty (game_file_fault game) game ≡ Ok game)
 AcceptsOrRefuses game (Err (Refused fault)) = unless_faulty (game_file_fault game) game ≡ Err fault
 AcceptsOrRefuses game (Err ReadFault) = ⊥
 AcceptsOrRefuses game (Err NoMemory) = Unit {0}

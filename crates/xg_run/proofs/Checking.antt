@@ -20,7 +20,8 @@ use Rattle.def_program.specs.Lines.{IsLine}
 use Rattle.def_program.proofs.Meant.{check_computed}
 use Rattle.xg_check.specs.Answers.{AnswersVerdict}
 use Rattle.xg_check.specs.declared.verdict.CheckFault.{CheckFault}
-use Rattle.xg_check.specs.declared.verdict.CheckFault.TheVariants.{File, Cert, HeadDiffers, NotAPlan, ValueTooGood, ReplyNotTight, TotalDiffers, TraceWidens, SecondDiffers}
+use Rattle.xg_check.specs.declared.verdict.CheckFault.TheVariants.{File, Cert, HeadDiffers, NotAPlan, ValueTooGood, ReplyNotTight, TotalDiffers, TraceWidens}
+use Rattle.xg_check.specs.declared.verdict.CheckFault.TheVariants.{SecondDiffers}
 use Rattle.xg_check.specs.declared.verdict.CheckFault.TheVariants as faults
 use Rattle.xg_load.specs.declared.ending.Ending.{Ending}
 use Rattle.xg_load.specs.declared.ending.Ending.TheVariants.{Done, Refused, ReadFault, WriteFault, NoMemory}

@@ -2,7 +2,8 @@
 --     HaveContents room contents entries   the entries of files, where their bytes are told
 --     items_shown number items             what is written of items, counted from this number
 --     parts_bytes number parts             the bytes of parts that are ready to be written
-use Rattle.std.specs.Prelude.{◌≡◌, ℕ, ◌+◌, ◌-◌, List, [], ◌∷◌, ◌++◌, Option, Some, None, IfSome, IsSomeAnd, Result, Ok, Err, string_bytes}
+use Rattle.std.specs.Prelude.{◌≡◌, ℕ, ◌+◌, ◌-◌, List, [], ◌∷◌, ◌++◌, Option, Some, None, IfSome, IsSomeAnd, Result, Ok}
+use Rattle.std.specs.Prelude.{Err, string_bytes}
 use Rattle.def_outside.specs.Cause.{RoseByOne}
 use Rattle.def_plan.specs.Form.{SequenceForm}
 use Rattle.def_reply.specs.Outcome.{Outcome}

@@ -4,7 +4,9 @@ use Rattle.def_cert_verdict.specs.declared.fault.TestFault.TheVariants as test
 use Rattle.def_program.specs.TextLines.{fault_line}
 use Rattle.def_program.specs.CheckLines.{cert_fault_line, test_fault_line}
 use Rattle.xg_check.specs.declared.verdict.CheckFault.{CheckFault}
-use Rattle.xg_check.specs.declared.verdict.CheckFault.TheVariants.{File, Cert, HeadDiffers, NotAPlan, ValueTooGood, ReplyNotTight, TotalDiffers, TraceWidens, SecondDiffers, NoMemory}
+use Rattle.xg_check.specs.declared.verdict.CheckFault.TheVariants.{File, Cert, HeadDiffers, NotAPlan, ValueTooGood}
+use Rattle.xg_check.specs.declared.verdict.CheckFault.TheVariants.{ReplyNotTight, TotalDiffers, TraceWidens}
+use Rattle.xg_check.specs.declared.verdict.CheckFault.TheVariants.{SecondDiffers, NoMemory}
 
 abbrev pub IsCheckLine : CheckFault → List ℕ → Type 0
 IsCheckLine (File fault) line = line ≡ fault_line fault

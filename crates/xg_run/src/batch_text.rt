@@ -6,7 +6,8 @@ ghost use Rattle.def_outside.specs.Sinks.{Writes};
 ghost use Rattle.def_program.specs.BatchText.{file_line};
 ghost use Rattle.def_program.specs.Text.{line_feed};
 ghost use Rattle.std.specs.Fmt.{decimal};
-ghost use Rattle.xg_run.specs.Batches.{CanBeShown, CanWritePart, HasOutcome, IsTextPart, IsTextOfEngine, part_bytes, parts_bytes};
+ghost use Rattle.xg_run.specs.Batches.{CanBeShown, CanWritePart, HasOutcome, IsTextPart, IsTextOfEngine, part_bytes};
+ghost use Rattle.xg_run.specs.Batches.{parts_bytes};
 
 use crate::certificate::PlayedText;
 use itoa::Buffer;

@@ -1,6 +1,7 @@
 //! The top call.
 ghost use Rattle.std.specs.Prelude.{◌≡◌, ◌≢◌, ◌↔◌, ◌≤◌, IsNone, IsTrue, length};
-ghost use Rattle.def_outside.specs.Calls.{HasFailed, HasFailedOnce, MayHaveFailed, OpensAtMost, Wrote, WroteFront, WroteNothing};
+ghost use Rattle.def_outside.specs.Calls.{HasFailed, HasFailedOnce, MayHaveFailed, OpensAtMost, Wrote, WroteFront};
+ghost use Rattle.def_outside.specs.Calls.{WroteNothing};
 ghost use Rattle.xg_io.specs.Calls.{files_call, sink_call};
 ghost use Rattle.def_command.specs.Grammar.{command_of_words, named_files};
 ghost use Rattle.def_program.specs.Program.{played};
@@ -170,8 +171,8 @@ fn conclude<Rt: Threads + Wait + Sync, F: Files, O: Sink, G: Gate>(
 /// | 4 | `out` failed; a front of the text was written |
 /// | 5 | memory ran out |
 ///
-/// Nothing is written to `out` before the work is over. A fault of `err` changes no status: the line that `err` failed to
-/// take is that of the status, too.
+/// Nothing is written to `out` before the work is over. A fault of `err` changes no status: the line that `err` failed
+/// to take is that of the status, too.
 pub fn run<Rt: Threads + Wait + Sync, F: Files, O: Sink, E: Sink, G: Gate>(
     rt: &Rt,
     alloc: Global,

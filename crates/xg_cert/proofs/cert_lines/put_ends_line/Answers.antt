@@ -7,7 +7,8 @@ use Rattle.xg_cert.proofs.cert_lines.put_ends_line.Goals as goal
 pub returns-in_err-put_field-clause-text : goal.returns-in_err-put_field-clause-text
 returns-in_err-put_field-clause-text g c =
     let ends = field number (fraction_text c.args.low) ∷ separator space ∷ field number (fraction_text c.args.high) ∷ separator feed ∷ [] in
-    let fact = first_field (g.O.Sink.written c.args.out.now) (g.O.Sink.written c.put_field.new.out) fixed_word c.args.word.now space ends c.in_err-put_field.ensures.text in
+    let fact = first_field (g.O.Sink.written c.args.out.now) (g.O.Sink.written c.put_field.new.out) fixed_word c.args.word.now space ends
+    c.in_err-put_field.ensures.text in
     search (rules, fact)
 
 pub returns-in_err-put_fraction-clause-text : goal.returns-in_err-put_fraction-clause-text

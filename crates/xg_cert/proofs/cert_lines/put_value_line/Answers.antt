@@ -10,7 +10,8 @@ use Rattle.xg_cert.proofs.cert_lines.put_value_line.Goals as goal
 pub returns-in_err-put_named-clause-text : goal.returns-in_err-put_named-clause-text
 returns-in_err-put_named-clause-text g c =
     let rest = field number (signed_decimal c.args.value) ∷ separator space ∷ field number (decimal c.args.choice) ∷ separator feed ∷ [] in
-    let fact = first_two (g.O.Sink.written c.args.out.now) (g.O.Sink.written c.put_named.new.out) fixed_word number (codes "value") (decimal c.args.set) space space rest c.in_err-put_named.ensures.text in
+    let fact = first_two (g.O.Sink.written c.args.out.now) (g.O.Sink.written c.put_named.new.out) fixed_word number (codes "value") (decimal c.args.set) space
+    space rest c.in_err-put_named.ensures.text in
     search (rules, fact)
 
 pub returns-in_err-put_signed-clause-text : goal.returns-in_err-put_signed-clause-text
@@ -19,7 +20,8 @@ returns-in_err-put_signed-clause-text g c =
     let signed = g.O.Sink.written c.put_signed.new.out in
     let last = field number (decimal c.args.choice) ∷ separator feed ∷ [] in
     let front : AppendsPrefix named signed (field_text (signed_decimal c.args.value) space) = search (rules, c.in_err-put_signed.ensures.text) in
-    let fact = then_two {T = Unit {0}} {E = Unit {0}} (g.O.Sink.written c.args.out.now) named signed fixed_word number (codes "value") (decimal c.args.set) space space
+    let fact = then_two {T = Unit {0}} {E = Unit {0}} (g.O.Sink.written c.args.out.now) named signed fixed_word number (codes "value") (decimal c.args.set)
+    space space
     (field number (signed_decimal c.args.value) ∷ separator space ∷ last) (Err tt) c.in_ok-put_named.ensures.text
     (first_field named signed number (signed_decimal c.args.value) space last front) in
     search (rules, fact)

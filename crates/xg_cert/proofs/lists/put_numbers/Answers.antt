@@ -10,12 +10,14 @@ use Rattle.xg_cert.proofs.lists.put_numbers.Goals as goal
 
 pub returns-in_err-put_whole-clause-text : goal.returns-in_err-put_whole-clause-text
 returns-in_err-put_whole-clause-text g c =
-    let fact = fails _ (g.O.Sink.written c.numbers.out) _ _ _ _ _ c.numbers.invariant.so_far (row_left c.args.numbers.now c.numbers.i _ (omega (arith, c.numbers-test.true))) c.in_err-put_whole.ensures.text in
+    let fact = fails _ (g.O.Sink.written c.numbers.out) _ _ _ _ _ c.numbers.invariant.so_far
+    (row_left c.args.numbers.now c.numbers.i _ (omega (arith, c.numbers-test.true))) c.in_err-put_whole.ensures.text in
     search (rules, fact)
 
 pub numbers-preserved : goal.numbers-preserved
 numbers-preserved g c = record {
-  so_far = goes_on _ (g.O.Sink.written c.numbers.out) _ _ _ _ _ c.numbers.invariant.so_far (row_left c.args.numbers.now c.numbers.i _ (omega (arith, c.numbers-test.true))) c.in_ok-put_whole.ensures.text;
+  so_far = goes_on _ (g.O.Sink.written c.numbers.out) _ _ _ _ _ c.numbers.invariant.so_far
+      (row_left c.args.numbers.now c.numbers.i _ (omega (arith, c.numbers-test.true))) c.in_ok-put_whole.ensures.text;
   blameless = c.in_ok-put_whole.ensures.cause ∙ c.numbers.invariant.blameless;
 }
 
@@ -26,4 +28,5 @@ returns-clause-text g c =
     let last : items_text (row_items (drop c.numbers.i ns)) ≡ field_text (decimal (get_or ns (length ns - 1) 0)) feed =
     row_last ns c.numbers.i 0 (omega (arith, c.requires)) ∙ ap (λ (i : ℕ). field_text (decimal (get_or ns i 0)) feed) here in
     finishes _ (g.O.Sink.written c.numbers.out) _ _ _ c.put_whole-2.result c.numbers.invariant.so_far
-    (subst (λ (t : List ℕ). Writes (g.O.Sink.written c.numbers.out) (g.O.Sink.written c.put_whole-2.new.out) t c.put_whole-2.result) (sym last) c.put_whole-2.ensures.text)
+    (subst (λ (t : List ℕ). Writes (g.O.Sink.written c.numbers.out) (g.O.Sink.written c.put_whole-2.new.out) t c.put_whole-2.result) (sym last)
+    c.put_whole-2.ensures.text)

@@ -13,7 +13,8 @@ returns-in_err-put_weights_line-clause-text g c =
     let low : c.sets.i < length xs = omega (arith, c.sets-test.true, c.set_count-i-end.ensures.plan) in
     let here : c.weights.result.now ≡ get_or xs c.sets.i [] = c.weights.ensures.value ∙ ap (λ (k : ℕ). get_or xs k []) (omega arith) in
     let fact = each_fail weights_line _ (g.O.Sink.written c.sets.out) _ xs c.sets.i [] low c.sets.invariant.so_far
-    (subst (λ (ns : List ℕ). AppendsPrefix (g.O.Sink.written c.sets.out) (g.O.Sink.written c.put_weights_line.new.out) (text_of (weights_line (c.sets.i + 1)) ns))
+    (subst (λ (ns : List ℕ). AppendsPrefix (g.O.Sink.written c.sets.out) (g.O.Sink.written c.put_weights_line.new.out)
+    (text_of (weights_line (c.sets.i + 1)) ns))
     here c.in_err-put_weights_line.ensures.text) in
     search (rules, fact)
 
@@ -24,7 +25,8 @@ sets-preserved g c =
     let here : c.weights.result.now ≡ get_or xs c.sets.i [] = c.weights.ensures.value ∙ ap (λ (k : ℕ). get_or xs k []) (omega arith) in
     record {
       so_far = each_step weights_line _ (g.O.Sink.written c.sets.out) _ xs c.sets.i [] low c.sets.invariant.so_far
-          (c.in_ok-put_weights_line.ensures.text ∙ ap (λ (ns : List ℕ). append_known (g.O.Sink.written c.sets.out) (text_of (weights_line (c.sets.i + 1)) ns)) here);
+          (c.in_ok-put_weights_line.ensures.text ∙ ap (λ (ns : List ℕ). append_known (g.O.Sink.written c.sets.out) (text_of (weights_line (c.sets.i + 1)) ns))
+          here);
       blameless = c.in_ok-put_weights_line.ensures.cause ∙ c.sets.invariant.blameless;
     }
 

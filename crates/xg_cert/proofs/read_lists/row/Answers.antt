@@ -17,7 +17,8 @@ returns-in_err-item-clause-exact c =
 pub returns-then-item-clause-exact : goal.returns-then-item-clause-exact
 returns-then-item-clause-exact c =
     let bytes = c.items.reader.left in
-    rw c.in_ok-push.ensures.items (row_ends most_root c.items.numbers.items 1023 c.items.counter _ bytes c.in_ok-item.item.number c.in_ok-item.item.last _ _ c.items-test.true
+    rw c.in_ok-push.ensures.items (row_ends most_root c.items.numbers.items 1023 c.items.counter _ bytes c.in_ok-item.item.number c.in_ok-item.item.last _ _
+    c.items-test.true
     (ap (λ (t : ℕ). read_number 0 most_root t bytes) (sym c.items.invariant.total) ∙ c.in_ok-item.ensures.exact) c.if-item.true c.items.invariant.rest)
 
 pub items-preserved : goal.items-preserved
@@ -25,7 +26,8 @@ items-preserved c =
     let bytes = c.items.reader.left in
     record {
       total = c.in_ok-item.ensures.total ∙ c.items.invariant.total;
-      rest = rw c.in_ok-push.ensures.items (row_goes_on most_root c.items.numbers.items 1023 c.items.counter _ bytes c.in_ok-item.item.number c.in_ok-item.item.last _ _ c.items-test.true
+      rest = rw c.in_ok-push.ensures.items (row_goes_on most_root c.items.numbers.items 1023 c.items.counter _ bytes c.in_ok-item.item.number
+          c.in_ok-item.item.last _ _ c.items-test.true
           (ap (λ (t : ℕ). read_number 0 most_root t bytes) (sym c.items.invariant.total) ∙ c.in_ok-item.ensures.exact) c.if-item.false c.items.invariant.rest);
     }
 
@@ -35,10 +37,12 @@ returns-in_err-number-clause-exact c =
     let bytes = c.items.reader.left in
     rw (p.1, p.2) (front_fails c.args.numbers.now.items _ c.in_err-number.field-0.0
     (row_last most_root c.items.numbers.items 1023 c.items.counter _ bytes _ c.items-test.false c.items.invariant.rest
-    ∙ ap (behind_front c.items.numbers.items) (ap (λ (t : ℕ). read_last most_root t bytes) (sym c.items.invariant.total) ∙ last_fails most_root _ bytes c.in_err-number.field-0.0 c.in_err-number.ensures.exact)))
+    ∙ ap (behind_front c.items.numbers.items) (ap (λ (t : ℕ). read_last most_root t bytes) (sym c.items.invariant.total)
+    ∙ last_fails most_root _ bytes c.in_err-number.field-0.0 c.in_err-number.ensures.exact)))
 
 pub returns-clause-exact : goal.returns-clause-exact
 returns-clause-exact c =
     let bytes = c.items.reader.left in
     rw c.in_ok-push-2.ensures.items (row_last most_root c.items.numbers.items 1023 c.items.counter _ bytes _ c.items-test.false c.items.invariant.rest
-    ∙ ap (behind_front c.items.numbers.items) (ap (λ (t : ℕ). read_last most_root t bytes) (sym c.items.invariant.total) ∙ last_gives most_root _ bytes _ _ c.in_ok-number.ensures.exact))
+    ∙ ap (behind_front c.items.numbers.items) (ap (λ (t : ℕ). read_last most_root t bytes) (sym c.items.invariant.total)
+    ∙ last_gives most_root _ bytes _ _ c.in_ok-number.ensures.exact))

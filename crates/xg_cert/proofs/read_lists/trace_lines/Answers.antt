@@ -15,8 +15,10 @@ returns-in_err-row-clause-exact c =
     let head = head_of c.args.head.now in
     let lines : ℕ → Format TraceLine = λ k. line_of_round (round_of_evaluation head k) in
     let bytes = c.rows.reader.left in
-    rw (p.1, p.2) (each_fails lines (Cert c.in_err-row.field-0.0) c.rows.rows.items (evaluation_count head) c.rows.i _ bytes _ (rw (sym c.evaluation_count-count.ensures) c.rows-test.true)
-    (subst (λ (t : ℕ). Fails (Cert c.in_err-row.field-0.0) ((lines (c.rows.i + 1)).read t bytes)) c.rows.invariant.total c.in_err-row.ensures.exact) c.rows.invariant.rest)
+    rw (p.1, p.2) (each_fails lines (Cert c.in_err-row.field-0.0) c.rows.rows.items (evaluation_count head) c.rows.i _ bytes _
+    (rw (sym c.evaluation_count-count.ensures) c.rows-test.true)
+    (subst (λ (t : ℕ). Fails (Cert c.in_err-row.field-0.0) ((lines (c.rows.i + 1)).read t bytes)) c.rows.invariant.total c.in_err-row.ensures.exact)
+    c.rows.invariant.rest)
 
 pub rows-preserved : goal.rows-preserved
 rows-preserved c =
@@ -25,7 +27,8 @@ rows-preserved c =
     let bytes = c.rows.reader.left in
     record {
       total = c.in_ok-row.ensures.total ∙ c.rows.invariant.total;
-      rest = rw c.in_ok-push.ensures.items (each_goes_on lines c.rows.rows.items (evaluation_count head) c.rows.i _ bytes c.in_ok-row.row _ _ (rw (sym c.evaluation_count-count.ensures) c.rows-test.true)
+      rest = rw c.in_ok-push.ensures.items (each_goes_on lines c.rows.rows.items (evaluation_count head) c.rows.i _ bytes c.in_ok-row.row _ _
+          (rw (sym c.evaluation_count-count.ensures) c.rows-test.true)
           (ap (λ (t : ℕ). (lines (c.rows.i + 1)).read t bytes) (sym c.rows.invariant.total) ∙ c.in_ok-row.ensures.exact) c.rows.invariant.rest);
     }
 
@@ -33,4 +36,5 @@ pub returns-clause-exact : goal.returns-clause-exact
 returns-clause-exact c =
     let head = head_of c.args.head.now in
     let lines : ℕ → Format TraceLine = λ k. line_of_round (round_of_evaluation head k) in
-    each_done lines c.rows.rows.items (evaluation_count head) c.rows.i _ c.rows.reader.left _ (rw (sym c.evaluation_count-count.ensures) c.rows-test.false) c.rows.invariant.rest
+    each_done lines c.rows.rows.items (evaluation_count head) c.rows.i _ c.rows.reader.left _ (rw (sym c.evaluation_count-count.ensures) c.rows-test.false)
+    c.rows.invariant.rest

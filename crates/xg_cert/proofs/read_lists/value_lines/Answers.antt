@@ -12,8 +12,10 @@ pub returns-in_err-line-clause-exact : goal.returns-in_err-line-clause-exact
 returns-in_err-line-clause-exact c =
     let p = err_from_is_err_and c.from_residual.result c.from_residual.ensures.1 in
     let bytes = c.sets.reader.left in
-    rw (p.1, p.2) (each_fails value_line (Cert c.in_err-line.field-0.0) (set_replies c.sets.values.items c.sets.choices.items) c.args.sets c.sets.i _ bytes _ c.sets-test.true
-    (subst (λ (t : ℕ). Fails (Cert c.in_err-line.field-0.0) ((value_line (c.sets.i + 1)).read t bytes)) c.sets.invariant.total c.in_err-line.ensures.exact) c.sets.invariant.rest)
+    rw (p.1, p.2) (each_fails value_line (Cert c.in_err-line.field-0.0) (set_replies c.sets.values.items c.sets.choices.items) c.args.sets c.sets.i _ bytes _
+    c.sets-test.true
+    (subst (λ (t : ℕ). Fails (Cert c.in_err-line.field-0.0) ((value_line (c.sets.i + 1)).read t bytes)) c.sets.invariant.total c.in_err-line.ensures.exact)
+    c.sets.invariant.rest)
 
 pub sets-preserved : goal.sets-preserved
 sets-preserved c =
@@ -21,14 +23,24 @@ sets-preserved c =
     let line = c.in_ok-line.line in
     let values : c.push.new.self.items ≡ c.sets.values.items ++ line.value ∷ [] = search rules in
     let choices : c.push-in-sets.new.self.items ≡ c.sets.choices.items ++ line.choice ∷ [] = c.in_ok-push-2.ensures.items in
-    let pushed : set_replies c.push.new.self.items c.push-in-sets.new.self.items ≡ set_replies c.sets.values.items c.sets.choices.items ++ set_reply_of line ∷ [] = rw (values, choices) (set_replies-push c.sets.values.items c.sets.choices.items line.value line.choice c.sets.invariant.same) in
+    let pushed : set_replies c.push.new.self.items c.push-in-sets.new.self.items ≡ set_replies c.sets.values.items c.sets.choices.items ++ set_reply_of line
+    ∷ [] = rw (values, choices) (set_replies-push c.sets.values.items c.sets.choices.items line.value line.choice c.sets.invariant.same) in
     record {
       total = c.in_ok-line.ensures.total ∙ c.sets.invariant.total;
-      same = omega (arith, ap length values, ap length choices, c.sets.invariant.same, length-append c.sets.values.items (line.value ∷ []), length-append c.sets.choices.items (line.choice ∷ []));
-      rest = rw pushed (each_goes_on value_line (set_replies c.sets.values.items c.sets.choices.items) c.args.sets c.sets.i _ bytes (set_reply_of line) _ _ c.sets-test.true
+      same = omega (
+        arith,
+        ap length values,
+        ap length choices,
+        c.sets.invariant.same,
+        length-append c.sets.values.items (line.value ∷ []),
+        length-append c.sets.choices.items (line.choice ∷ []),
+      );
+      rest = rw pushed (each_goes_on value_line (set_replies c.sets.values.items c.sets.choices.items) c.args.sets c.sets.i _ bytes (set_reply_of line) _ _
+          c.sets-test.true
           (ap (λ (t : ℕ). (value_line (c.sets.i + 1)).read t bytes) (sym c.sets.invariant.total) ∙ c.in_ok-line.ensures.exact) c.sets.invariant.rest);
     }
 
 pub returns-clause-exact : goal.returns-clause-exact
 returns-clause-exact c =
-    each_done value_line (set_replies c.sets.values.items c.sets.choices.items) c.args.sets c.sets.i _ c.sets.reader.left _ c.sets-test.false c.sets.invariant.rest
+    each_done value_line (set_replies c.sets.values.items c.sets.choices.items) c.args.sets c.sets.i _ c.sets.reader.left _ c.sets-test.false
+    c.sets.invariant.rest

@@ -11,8 +11,10 @@ pub returns-in_err-weights_line-clause-exact : goal.returns-in_err-weights_line-
 returns-in_err-weights_line-clause-exact c =
     let p = err_from_is_err_and c.from_residual-in_err-weights_line.result c.from_residual-in_err-weights_line.ensures.1 in
     let bytes = c.sets.reader.left in
-    rw (p.1, p.2) (each_fails weights_line c.in_err-weights_line.field-0.0 (cut_at c.sets.starts.items c.sets.numbers.items) c.args.sets c.sets.i _ bytes _ c.sets-test.true
-    (subst (λ (t : ℕ). Fails c.in_err-weights_line.field-0.0 ((weights_line (c.sets.i + 1)).read t bytes)) c.sets.invariant.total c.in_err-weights_line.ensures.exact) c.sets.invariant.rest)
+    rw (p.1, p.2) (each_fails weights_line c.in_err-weights_line.field-0.0 (cut_at c.sets.starts.items c.sets.numbers.items) c.args.sets c.sets.i _ bytes _
+    c.sets-test.true
+    (subst (λ (t : ℕ). Fails c.in_err-weights_line.field-0.0 ((weights_line (c.sets.i + 1)).read t bytes)) c.sets.invariant.total
+    c.in_err-weights_line.ensures.exact) c.sets.invariant.rest)
 
 pub sets-preserved : goal.sets-preserved
 sets-preserved c =

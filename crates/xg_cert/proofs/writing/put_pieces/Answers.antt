@@ -10,7 +10,8 @@ pub returns-in_err-put_above-clause-text : goal.returns-in_err-put_above-clause-
 returns-in_err-put_above-clause-text g c =
     let top : List ℕ = above_text c.args.first (head_of c.args.head.now) in
     let bounds : List ℕ = below_text c.args.head.now.sum (option_map (λ b. g.B.Bounds.printed b.now) c.args.bounds) in
-    let fact = prefix_first (g.O.Sink.written c.args.out.now) (g.O.Sink.written c.put_above.new.out) top (bounds ++ last_text) c.in_err-put_above.ensures.text in
+    let fact = prefix_first (g.O.Sink.written c.args.out.now) (g.O.Sink.written c.put_above.new.out) top (bounds ++ last_text)
+    c.in_err-put_above.ensures.text in
     search (rules, fact)
 
 pub returns-in_err-put_below-clause-text : goal.returns-in_err-put_below-clause-text

@@ -12,8 +12,10 @@ use Rattle.xg_cert.proofs.writing.put_plan.Goals as goal
 pub returns-in_err-put_field-clause-text : goal.returns-in_err-put_field-clause-text
 returns-in_err-put_field-clause-text g c =
     let plan = plan_in c.args.player (g.B.Bounds.printed c.args.bounds.now) in
-    let rest = field fixed_word c.args.digit.now ∷ separator space ∷ field number (decimal plan.root) ∷ separator feed ∷ each_items weights_line 1 plan.weights in
-    let fact = first_field (g.O.Sink.written c.args.out.now) (g.O.Sink.written c.put_field.new.out) fixed_word (codes "plan") space rest c.in_err-put_field.ensures.text in
+    let rest = field fixed_word c.args.digit.now ∷ separator space ∷ field number (decimal plan.root) ∷ separator feed
+    ∷ each_items weights_line 1 plan.weights in
+    let fact = first_field (g.O.Sink.written c.args.out.now) (g.O.Sink.written c.put_field.new.out) fixed_word (codes "plan") space rest
+    c.in_err-put_field.ensures.text in
     search (rules, fact)
 
 pub returns-in_err-put_named-clause-text : goal.returns-in_err-put_named-clause-text
@@ -22,7 +24,8 @@ returns-in_err-put_named-clause-text g c =
     let word = g.O.Sink.written c.put_field.new.out in
     let now = g.O.Sink.written c.put_named.new.out in
     let sets = each_items weights_line 1 plan.weights in
-    let front : AppendsPrefix word now (items_text (field fixed_word c.args.digit.now ∷ separator space ∷ field number (decimal plan.root) ∷ separator feed ∷ [])) =
+    let front : AppendsPrefix word now (items_text (field fixed_word c.args.digit.now ∷ separator space ∷ field number (decimal plan.root) ∷ separator feed
+    ∷ [])) =
     search (rules, c.in_err-put_named.ensures.text, c.root.ensures) in
     let fact = then_field {T = Unit {0}} {E = Unit {0}} (g.O.Sink.written c.args.out.now) word now fixed_word (codes "plan") space
     (field fixed_word c.args.digit.now ∷ separator space ∷ field number (decimal plan.root) ∷ separator feed ∷ sets) (Err tt) c.in_ok-put_field.ensures.text
@@ -35,7 +38,8 @@ returns-clause-text g c =
     let word = g.O.Sink.written c.put_field.new.out in
     let root = g.O.Sink.written c.put_named.new.out in
     let now = g.O.Sink.written c.put_weights.new.out in
-    let line : root ≡ append_known word (items_text (field fixed_word c.args.digit.now ∷ separator space ∷ field number (decimal plan.root) ∷ separator feed ∷ [])) =
+    let line : root ≡ append_known word (items_text (field fixed_word c.args.digit.now ∷ separator space ∷ field number (decimal plan.root) ∷ separator feed
+    ∷ [])) =
     search (rules, c.in_ok-put_named.ensures.text, c.root.ensures) in
     then_field _ word now fixed_word _ space _ c.put_weights.result c.in_ok-put_field.ensures.text
     (then_two word root now fixed_word number _ _ space feed _ c.put_weights.result line c.put_weights.ensures.text)

@@ -12,8 +12,10 @@ use Rattle.xg_cert.proofs.writing.put_reply.Goals as goal
 pub returns-in_err-put_field-clause-text : goal.returns-in_err-put_field-clause-text
 returns-in_err-put_field-clause-text g c =
     let reply = reply_in c.args.player (g.B.Bounds.printed c.args.bounds.now) in
-    let rest = field fixed_word c.args.digit.now ∷ separator space ∷ field number (signed_decimal reply.total) ∷ separator feed ∷ each_items value_line 1 reply.sets in
-    let fact = first_field (g.O.Sink.written c.args.out.now) (g.O.Sink.written c.put_field.new.out) fixed_word (codes "reply") space rest c.in_err-put_field.ensures.text in
+    let rest = field fixed_word c.args.digit.now ∷ separator space ∷ field number (signed_decimal reply.total) ∷ separator feed
+    ∷ each_items value_line 1 reply.sets in
+    let fact = first_field (g.O.Sink.written c.args.out.now) (g.O.Sink.written c.put_field.new.out) fixed_word (codes "reply") space rest
+    c.in_err-put_field.ensures.text in
     search (rules, fact)
 
 pub returns-in_err-put_total-clause-text : goal.returns-in_err-put_total-clause-text
@@ -22,10 +24,12 @@ returns-in_err-put_total-clause-text g c =
     let word = g.O.Sink.written c.put_field.new.out in
     let now = g.O.Sink.written c.put_total.new.out in
     let sets = each_items value_line 1 reply.sets in
-    let front : AppendsPrefix word now (items_text (field fixed_word c.args.digit.now ∷ separator space ∷ field number (signed_decimal reply.total) ∷ separator feed ∷ [])) =
+    let front : AppendsPrefix word now (items_text (field fixed_word c.args.digit.now ∷ separator space ∷ field number (signed_decimal reply.total)
+    ∷ separator feed ∷ [])) =
     search (rules, c.in_err-put_total.ensures.text, c.total.ensures) in
     let fact = then_field {T = Unit {0}} {E = Unit {0}} (g.O.Sink.written c.args.out.now) word now fixed_word (codes "reply") space
-    (field fixed_word c.args.digit.now ∷ separator space ∷ field number (signed_decimal reply.total) ∷ separator feed ∷ sets) (Err tt) c.in_ok-put_field.ensures.text
+    (field fixed_word c.args.digit.now ∷ separator space ∷ field number (signed_decimal reply.total) ∷ separator feed ∷ sets) (Err tt)
+    c.in_ok-put_field.ensures.text
     (first_two word now fixed_word number c.args.digit.now (signed_decimal reply.total) space feed sets front) in
     search (rules, fact)
 
@@ -35,7 +39,8 @@ returns-clause-text g c =
     let word = g.O.Sink.written c.put_field.new.out in
     let total = g.O.Sink.written c.put_total.new.out in
     let now = g.O.Sink.written c.put_values.new.out in
-    let line : total ≡ append_known word (items_text (field fixed_word c.args.digit.now ∷ separator space ∷ field number (signed_decimal reply.total) ∷ separator feed ∷ [])) =
+    let line : total ≡ append_known word (items_text (field fixed_word c.args.digit.now ∷ separator space ∷ field number (signed_decimal reply.total)
+    ∷ separator feed ∷ [])) =
     search (rules, c.in_ok-put_total.ensures.text, c.total.ensures) in
     then_field _ word now fixed_word _ space _ c.put_values.result c.in_ok-put_field.ensures.text
     (then_two word total now fixed_word number _ _ space feed _ c.put_values.result line c.put_values.ensures.text)

@@ -25,5 +25,6 @@ returns-clause-text g c =
     let bounds = c.head-head.ensures.bounds asked in
     let written : Certificate = record { head = head_of c.head-head.result.now; bounds = Some (bounds_in read) } in
     let said : written ≡ read = λ i. record { head = same i; bounds = sym bounds i } in
-    subst (λ (x : Certificate). Writes (g.O.Sink.written c.args.out.now) (g.O.Sink.written c.put_text-2.new.out) (versioned_text (in_version_two x)) c.put_text-2.result)
+    subst (λ (x : Certificate). Writes (g.O.Sink.written c.args.out.now) (g.O.Sink.written c.put_text-2.new.out) (versioned_text (in_version_two x))
+    c.put_text-2.result)
     said c.put_text-2.ensures.text

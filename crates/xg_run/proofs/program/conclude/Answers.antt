@@ -18,7 +18,8 @@ use Rattle.xg_command.specs.Plain.{plain_value}
 use Rattle.xg_run.specs.Concludes.{Concludes, FileTold, Tells}
 use Rattle.def_program_opens.specs.MayOpen.{MayOpen}
 use Rattle.xg_run.proofs.MadeEnds.{poker_is_told, text_told}
-use Rattle.xg_run.proofs.SettingsWithinLimits.{solve_within, batch_within, batch_workers_within, drill_within, drill_workers_within, plus_within, plus_workers_within, workers_within}
+use Rattle.xg_run.proofs.SettingsWithinLimits.{solve_within, batch_within, batch_workers_within, drill_within, drill_workers_within, plus_within}
+use Rattle.xg_run.proofs.SettingsWithinLimits.{plus_workers_within, workers_within}
 use Rattle.xg_run.proofs.WordsMeanTheirCommand.{by_command, of_each_name, opens_named, told_of_names}
 use Rattle.xg_run.proofs.program.conclude.Goals as goal
 

@@ -9,7 +9,12 @@ use Rattle.xg_cert.proofs.bounds.FormBoundsBounds.weights.Goals as goal
 pub place_of-place-requires-clause-there : goal.place_of-place-requires-clause-there
 place_of-place-requires-clause-there c =
     let b = c.args.self.now in
-    omega (arith, c.requires.there, ap (λ p. length p.weights) (plan_is c.args.player b), length-by_sets (player_sets b.form.now c.args.player) (drop 1 (end_in c.args.player b).plan))
+    omega (
+      arith,
+      c.requires.there,
+      ap (λ p. length p.weights) (plan_is c.args.player b),
+      length-by_sets (player_sets b.form.now c.args.player) (drop 1 (end_in c.args.player b).plan),
+    )
 
 pub returns-clause-value : goal.returns-clause-value
 returns-clause-value c =
