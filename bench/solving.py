@@ -14,7 +14,8 @@ busy machine; a bound is kept where either keeps it. Memory is the greatest that
 process that starts the program can't be seen.
 
 Each game is solved without a number of workers, as it is for those who ask for nothing, and in turn with `--workers 1`,
-which may not be faster. With --workers N it is solved with this number alone, by OTHER too.
+which may not be faster. Those with so many leaves that threads may pay are solved so once more beside a load: as many
+busy processes as there are processors. With --workers N a game is solved with this number alone, by OTHER too.
 
 A line says what was measured, the measure and its bound, where it has one; the last line counts what passed and failed,
 and the status is 1 where something failed.
@@ -37,6 +38,8 @@ import command_line
 MOST_ROUNDS = 65_536
 # What is never slower is given a tenth, as two measurements of one program differ.
 GROWTH, TEXT_RATIO, SLOWER = 2.3, 2.0, 1.1
+# From so many leaves on threads may pay, which beside a load may cost a fifth of the rounds.
+THREADS_PAY, SLOWER_LOADED = 200_000, 1.25
 # Runs of games with fewer leaves are short, so there are more of them.
 SMALL, SMALL_TURNS = 10_000, 4
 
@@ -189,6 +192,18 @@ class Solver:
         )
 
 
+class Load:
+    """As many busy processes as there are processors, as long as it is entered."""
+
+    def __enter__(self):
+        self.processes = [subprocess.Popen([sys.executable, "-c", "while True: pass"]) for _ in range(os.cpu_count())]
+
+    def __exit__(self, *_):
+        for it in self.processes:
+            it.kill()
+            it.wait()
+
+
 class Game:
     """A game in a file of its own, with the solvers that play it."""
 
@@ -289,10 +304,25 @@ def tell_game(report, game, programs, given):
     if not given.workers:
         slower = ours.over(game.solvers[-1])
         report.judge(f"{name}: a round without a number of workers, over one worker's", slower, SLOWER, "times")
+        if game.leaves >= THREADS_PAY:
+            slower = over_loaded(game, given)
+            report.judge(f"{name}: the same beside a load", slower, SLOWER_LOADED, "times")
     if len(programs) > 1:
         other = 1 / game.solvers[1].of_a_round(given.work)
         report.say(f"{name}, beside: {other:.1f} rounds a second; ours over it {rate / other:.2f}")
         report.that(f"{name}: the texts are the same", same_text(programs, game.path))
+
+
+def over_loaded(game, given):
+    """The time of a round without a number of workers over that with one worker, in turns beside a load."""
+    ours = game.solvers[0]
+    pair = [Solver(ours.program, workers, ours.path) for workers in (None, 1)]
+    with Load():
+        for turn in range(given.runs):
+            for solver in reversed(pair) if turn % 2 else pair:
+                solver.many = ours.many
+                solver.turn()
+    return pair[0].over(pair[1])
 
 
 def tell_text(report, game, programs, given):
