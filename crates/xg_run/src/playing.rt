@@ -22,7 +22,7 @@ use xg_board::MadeBy;
 use xg_cert::Outcome;
 use xg_engine::{Engine, Settings, Variant};
 use xg_io::{Gate, Sink, write_paged};
-use xg_jobs::{JobTable, PlainRows, RowInput, Rows};
+use xg_jobs::{JobTable, PlainRows, RowInput, Rows, ThreadedRows};
 use xg_load::AcceptedGame;
 
 /// Plays the rounds that are asked, and writes the text of what they leave.
@@ -81,7 +81,8 @@ fn play_by<Rt: Threads + Wait + Sync, O: Sink, G: Gate>(
     }
 }
 
-/// Plays the rounds: alone with one worker, else with workers who add into shared rows.
+/// Plays the rounds: with one worker alone, or by threads with rows of their own where nobody said how many work; else
+/// with workers who add into shared rows.
 fn play_rounds<Rt: Threads + Wait + Sync, G: Gate>(
     rt: &Rt,
     alloc: Global,
@@ -95,7 +96,13 @@ fn play_rounds<Rt: Threads + Wait + Sync, G: Gate>(
     ensures game { engine.new.game ≡ engine.old.game }
 {
     if rows.workers == 1 {
-        return engine.run_variant(rt, alloc, variant, settings, &PlainRows);
+        if !rows.absent {
+            return engine.run_variant(rt, alloc, variant, settings, &PlainRows);
+        }
+        let maker = ThreadedRows::new(alloc, engine.form())?;
+        let played = engine.run_variant(rt, alloc, variant, settings, &maker);
+        drop(maker);
+        return played;
     }
     let maker = MadeBy {
         make: |input: &RowInput<'_>, jobs: &JobTable| -> Result<Rows, AllocError>

@@ -18,7 +18,8 @@ use xg_rowcore::USUAL_STRIPES;
 use xg_words::AtomicRows;
 
 /// How many workers pay where no number of them is given: one thread adds up its rows faster than several workers add
-/// into shared ones, for every number of leaves that a file can have.
+/// into shared ones, for every number of leaves that a file can have. Threads with rows of their own, as `ThreadedRows`
+/// has them, are no workers.
 const PAYING_WORKERS: u32 = 1;
 
 /// The rows that several workers add into: behind locks, or as words without any.
@@ -28,6 +29,8 @@ pub struct SharedRows<'g, G: Gate> {
     pub workers: u32,
     /// Whether the workers add without locks.
     pub atomic: bool,
+    /// Whether nobody said how many work.
+    pub absent: bool,
     /// Where workers may be held up.
     pub gate: &'g G,
     ghost some: { 1 ≤ workers },
@@ -46,6 +49,7 @@ impl<'g, G: Gate> SharedRows<'g, G> {
         SharedRows {
             workers: words.workers.unwrap_or(PAYING_WORKERS),
             atomic: words.atomic,
+            absent: words.workers.is_none(),
             gate,
         }
     }
