@@ -23,7 +23,7 @@ use Rattle.def_cert_text.specs.CertText.{versioned_text}
 use Rattle.def_cert_versions.specs.Verdict.{in_version_two}
 use Rattle.def_check.specs.Check.{most_cert_bytes}
 use Rattle.def_check.specs.Checking.{Checks}
-use Rattle.def_command.specs.Grammar.{Settings}
+use Rattle.def_command.specs.declared.Settings.{Settings}
 use Rattle.def_game_numbers.specs.Weighed.{weighed_game}
 use Rattle.def_cert_accepted.specs.Bounds.{BoundsHold}
 use Rattle.def_program.specs.Checked.{HoldsOfFile}

@@ -17,7 +17,8 @@ use Rattle.def_check.specs.Accepting.{read_as_accepted}
 use Rattle.def_check.proofs.InNumbers.{faultless_game}
 use Rattle.def_batch.specs.Batch.{BatchEntry, Kept, Long, batch_entries, batch_room, item_of}
 use Rattle.def_batch.proofs.Judged.{judged_alone}
-use Rattle.def_command.specs.Grammar.{Batch, Check, Command, Drill, Gen, Info, Plus, Settings, Solve, Upgrade, command_of_words}
+use Rattle.def_command.specs.Grammar.{Batch, Check, Command, Drill, Gen, Info, Plus, Solve, Upgrade, command_of_words}
+use Rattle.def_command.specs.declared.Settings.{Settings}
 use Rattle.def_plus.specs.declared.Variant.{Variant}
 use Rattle.def_plus.specs.declared.Variant.TheVariants as variants
 use Rattle.def_command.proofs.InRange.{cards_in_range, settings_in_range}

@@ -20,7 +20,7 @@ use Rattle.def_plus_run.proofs.VariantRuns.{variant_runs_sum_plans}
 use Rattle.def_cert_verdict.specs.Certificate.{Certificate, PrintedBounds}
 use Rattle.def_cert_accepted.specs.OfOutcome.{certificate_of}
 use Rattle.def_cert_accepted.proofs.OfRun.{bounds_in, certificate_in, same_head}
-use Rattle.def_command.specs.Grammar.{Settings}
+use Rattle.def_command.specs.declared.Settings.{Settings}
 use Rattle.def_fraction.specs.Order.{IsAtMost, difference_of}
 use Rattle.def_program.specs.Text.{game_head}
 use Rattle.def_program.specs.Bounds.{game_bounds}

@@ -3,7 +3,7 @@ use Rattle.std.specs.Prelude.{◌≡◌, ℕ, pos}
 use Rattle.def_fraction.specs.Fraction.{over}
 use Rattle.def_canon.specs.Poker.{poker}
 use Rattle.def_plus.specs.declared.Variant.TheVariants as variants
-use Rattle.def_command.specs.Grammar.{Settings}
+use Rattle.def_command.specs.declared.Settings.{Settings}
 use Rattle.def_program.specs.Bounds.{written_alone}
 use Rattle.def_closing_program.specs.Promises.{promise_of}
 

@@ -6,7 +6,9 @@ use Rattle.def_sums.specs.Limits.{least_cards, most_cards}
 use Rattle.def_fraction.proofs.LiteralLemmas.{option_map_some}
 use Rattle.def_command.specs.Table as table
 use Rattle.def_command.specs.Table.{CommandName, OptionName, Rounds, Every, Scale, Workers, Atomic, least_plain, most_plain}
-use Rattle.def_command.specs.Grammar.{Settings, RowSettings, Command, Solve, Check, Upgrade, Info, Gen, Drill, Plus, Batch, Argument, Taken, takes_nothing}
+use Rattle.def_command.specs.Grammar.{Command, Solve, Check, Upgrade, Info, Gen, Drill, Plus, Batch, Argument, Taken, takes_nothing}
+use Rattle.def_command.specs.declared.Settings.{Settings}
+use Rattle.def_command.specs.declared.RowSettings.{RowSettings}
 use Rattle.def_command.specs.Grammar.{IsCall, IsCommand, IsOfTwo, number_so_far, number_given, number_from_to, plain_words, settings_from, settings_in}
 use Rattle.def_command.specs.Grammar.{settings_of, workers_of, rows_from, rows_in, rows_of, with_one, with_two, with_some, read_words, command_from}
 use Rattle.def_command.specs.Grammar.{command_named, command_of_words}

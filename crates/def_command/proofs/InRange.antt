@@ -6,7 +6,9 @@ use Rattle.std.proofs.lemmas.Option.{none-some, same_Some}
 use Rattle.def_sums.specs.Limits.{most_rounds, most_workers}
 use Rattle.def_command.specs.Table as table
 use Rattle.def_command.specs.Table.{CommandName, OptionName, Rounds, Every, Scale, Workers, least_plain, most_plain, least_number, most_number, default_number}
-use Rattle.def_command.specs.Grammar.{Settings, RowSettings, Solve, Gen, Drill, Plus, Batch, Argument, Plain, Number, AreSpelled, IsCommand, is_same_option}
+use Rattle.def_command.specs.Grammar.{Solve, Gen, Drill, Plus, Batch, Argument, Plain, Number, AreSpelled, IsCommand, is_same_option}
+use Rattle.def_command.specs.declared.Settings.{Settings}
+use Rattle.def_command.specs.declared.RowSettings.{RowSettings}
 use Rattle.def_command.specs.Grammar.{number_given, plain_words, settings_of, workers_of, rows_of}
 use Rattle.def_command.specs.GrammarLaws.{CardsAreInRange, CardsInRange, FilesAreInRange, FilesInRange, SettingsAreInRange}
 use Rattle.def_command.proofs.Arguments.{same_option}

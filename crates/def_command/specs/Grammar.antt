@@ -11,8 +11,8 @@ use Rattle.std.specs.Prelude.{option_and_then}
 use Rattle.def_sums.specs.Limits.{least_cards, most_cards}
 use Rattle.def_fraction.specs.Digits.{is_numeral, number_of}
 use Rattle.def_command.specs.Words.{is_option, is_word}
-pub use Rattle.def_command.specs.declared.RowSettings.{RowSettings}
-pub use Rattle.def_command.specs.declared.Settings.{Settings}
+use Rattle.def_command.specs.declared.RowSettings.{RowSettings}
+use Rattle.def_command.specs.declared.Settings.{Settings}
 use Rattle.def_command.specs.Table as table
 use Rattle.def_command.specs.Table.{CommandName, OptionName, Rounds, Every, Scale, Workers, Atomic, built_commands}
 use Rattle.def_command.specs.Table.{built_options, command_word, least_plain, most_plain, takes, option_name}

@@ -3,7 +3,9 @@ use Rattle.std.specs.Prelude.{◌≡◌, ◌↔◌, ◌≤◌, List, length, ℕ
 use Rattle.def_sums.specs.Limits.{most_rounds, most_scale, most_workers, least_cards, most_cards}
 use Rattle.def_plus.specs.Limits.{most_plus_rounds, most_plus_scale}
 use Rattle.def_command.specs.Table.{most_files}
-use Rattle.def_command.specs.Grammar.{Settings, RowSettings, Command, Solve, Gen, Drill, Plus, Batch, command_of_words}
+use Rattle.def_command.specs.Grammar.{Command, Solve, Gen, Drill, Plus, Batch, command_of_words}
+use Rattle.def_command.specs.declared.Settings.{Settings}
+use Rattle.def_command.specs.declared.RowSettings.{RowSettings}
 use Rattle.def_command.specs.Grammar.{IsCall}
 
 -- the command that is computed is exactly the one that the words are a call of

@@ -1,6 +1,7 @@
 -- Worked rows: words that are taken, with their command, and words that aren't.
 use Rattle.std.specs.Prelude.{◌≡◌, ℕ, Bool, true, false, List, [], ◌∷◌, ◌++◌, Option, Some, None, codes}
-use Rattle.def_command.specs.Grammar.{Command, RowSettings, Solve, Check, Upgrade, Info, Gen, Drill, Plus, Batch}
+use Rattle.def_command.specs.Grammar.{Command, Solve, Check, Upgrade, Info, Gen, Drill, Plus, Batch}
+use Rattle.def_command.specs.declared.RowSettings.{RowSettings}
 use Rattle.def_command.specs.Grammar.{command_of_words}
 
 abbrev file : List ℕ

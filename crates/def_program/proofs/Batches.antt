@@ -11,7 +11,7 @@ use Rattle.def_file.specs.Content.{GameFile}
 use Rattle.def_batch.specs.Batch.{BatchEntry, Kept, Long, batch_entries, batch_room, item_of}
 use Rattle.def_batch.proofs.Entries.{computed}
 use Rattle.def_batch.proofs.Judged.{judged_alone}
-use Rattle.def_command.specs.Grammar.{Settings}
+use Rattle.def_command.specs.declared.Settings.{Settings}
 use Rattle.def_program.specs.BatchText.{batch_items, batch_text, file_line, part_text, parts_text}
 use Rattle.def_program.specs.Text.{solve_text}
 use Rattle.def_program.specs.Program.{Answer, all_told, success}

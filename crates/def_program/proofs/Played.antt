@@ -21,7 +21,8 @@ use Rattle.def_cert_verdict.specs.Laws.{IsHeadOf, with_bounds}
 use Rattle.def_cert_accepted.specs.Bounds.{BoundsHold}
 use Rattle.def_cert_accepted.proofs.Outcomes.{outcomes_have_bounds}
 use Rattle.def_cert_versions.specs.Verdict.{in_version_two}
-use Rattle.def_command.specs.Grammar.{Batch, Check, Command, Drill, Gen, Info, Plus, Settings, Solve, Upgrade, command_of_words}
+use Rattle.def_command.specs.Grammar.{Batch, Check, Command, Drill, Gen, Info, Plus, Solve, Upgrade, command_of_words}
+use Rattle.def_command.specs.declared.Settings.{Settings}
 use Rattle.def_command.proofs.InRange.{cards_in_range, settings_in_range}
 use Rattle.def_canon.specs.Canon.{canon}
 use Rattle.def_canon.specs.Poker.{poker}

@@ -8,7 +8,7 @@ use Rattle.std.specs.Fmt.{decimal}
 use Rattle.def_file.specs.declared.FileFault.{FileFault}
 use Rattle.def_file.specs.Content.{GameFile}
 use Rattle.def_batch.specs.Batch.{batch_entries, batch_room, item_of}
-use Rattle.def_command.specs.Grammar.{Settings}
+use Rattle.def_command.specs.declared.Settings.{Settings}
 use Rattle.def_program.specs.Text.{line_feed, solve_text}
 use Rattle.def_program.specs.TextLines.{fault_line}
 

@@ -16,7 +16,8 @@ use Rattle.def_cert_accepted.specs.Bounds.{BoundsHold}
 use Rattle.def_cert_versions.specs.Verdict.{in_version_two}
 use Rattle.def_plus.specs.declared.Variant.{Variant}
 use Rattle.def_plus.specs.declared.Variant.TheVariants as variants
-use Rattle.def_command.specs.Grammar.{Batch, Check, Command, Drill, Gen, Info, Plus, Settings, Solve, Upgrade}
+use Rattle.def_command.specs.Grammar.{Batch, Check, Command, Drill, Gen, Info, Plus, Solve, Upgrade}
+use Rattle.def_command.specs.declared.Settings.{Settings}
 use Rattle.def_command.specs.Grammar.{command_of_words}
 use Rattle.def_program.specs.BatchText.{batch_items, file_line, parts_text}
 use Rattle.def_program.specs.Text.{game_head, game_certificate, played_text, text_of_variant}

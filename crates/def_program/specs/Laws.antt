@@ -9,7 +9,7 @@ use Rattle.def_cert_text.specs.CertText.{versioned_text}
 use Rattle.def_cert_versions.specs.Verdict.{upgraded}
 use Rattle.def_check.specs.Checking.{Checks, IsTextOf}
 use Rattle.def_plus.specs.declared.Variant.{Variant}
-use Rattle.def_command.specs.Grammar.{Settings}
+use Rattle.def_command.specs.declared.Settings.{Settings}
 use Rattle.def_check.specs.Accepted.{IsAccepted}
 use Rattle.def_program.specs.CheckLines.{upgraded_text}
 use Rattle.def_program.specs.Program.{Answer, program}

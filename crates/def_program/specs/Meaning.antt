@@ -17,7 +17,8 @@ use Rattle.def_check.specs.Checking.{Checks}
 use Rattle.def_check.specs.Accepted.{IsAccepted}
 use Rattle.def_batch.specs.Batch.{BatchEntry, Kept, Long, batch_room}
 use Rattle.def_batch.specs.Laws.{HaveEntries}
-use Rattle.def_command.specs.Grammar.{Batch, Check, Command, Drill, Gen, Info, Plus, Settings, Solve, Upgrade}
+use Rattle.def_command.specs.Grammar.{Batch, Check, Command, Drill, Gen, Info, Plus, Solve, Upgrade}
+use Rattle.def_command.specs.declared.Settings.{Settings}
 use Rattle.def_command.specs.Grammar.{command_of_words, named_files}
 use Rattle.def_program.specs.Text.{info_text}
 use Rattle.def_program.specs.BatchText.{parts_text}

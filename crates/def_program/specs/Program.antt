@@ -16,7 +16,8 @@ use Rattle.def_check.specs.Check.{Refusal, checked, most_cert_bytes}
 use Rattle.def_plus.specs.declared.Variant.{Variant}
 use Rattle.def_plus.specs.declared.Variant.TheVariants.{Plain}
 use Rattle.def_plus.specs.declared.Variant.TheVariants as variants
-use Rattle.def_command.specs.Grammar.{Batch, Check, Command, Drill, Gen, Info, Plus, Settings, Solve, Upgrade}
+use Rattle.def_command.specs.Grammar.{Batch, Check, Command, Drill, Gen, Info, Plus, Solve, Upgrade}
+use Rattle.def_command.specs.declared.Settings.{Settings}
 use Rattle.def_command.specs.Grammar.{command_of_words}
 use Rattle.def_program.specs.Text.{info_text, played_text}
 use Rattle.def_program.specs.BatchText.{batch_text}

@@ -25,7 +25,7 @@ use Rattle.def_cert_text.specs.Versions.{VersionedCertificate}
 use Rattle.def_cert_text.specs.CertText.{head_text, versioned_text}
 use Rattle.def_cert_text.specs.PlusText.{plus_text}
 use Rattle.def_cert_versions.specs.Verdict.{in_version_two}
-use Rattle.def_command.specs.Grammar.{Settings}
+use Rattle.def_command.specs.declared.Settings.{Settings}
 
 abbrev pub line_feed : List ℕ
 line_feed = 10 ∷ []

@@ -3,7 +3,9 @@ use Rattle.std.specs.Prelude.{◌≡◌, ◌↔◌, ℕ, ◌≤◌, List, Option
 use Rattle.def_canon.specs.Canon.{canon}
 use Rattle.def_canon.specs.Poker.{poker}
 use Rattle.def_check.specs.Accepted.{IsAccepted}
-use Rattle.def_command.specs.Grammar.{Drill, RowSettings, Settings, command_of_words}
+use Rattle.def_command.specs.Grammar.{Drill, command_of_words}
+use Rattle.def_command.specs.declared.RowSettings.{RowSettings}
+use Rattle.def_command.specs.declared.Settings.{Settings}
 use Rattle.def_plus.specs.declared.Variant.TheVariants.{Plain}
 use Rattle.def_program.specs.Bounds.{HasItsBounds}
 use Rattle.def_program.specs.Meaning.{Means}

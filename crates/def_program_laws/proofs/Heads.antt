@@ -23,7 +23,7 @@ use Rattle.def_check.proofs.FileAccepted.{accepted_games_sound}
 use Rattle.def_check.proofs.InNumbers.{some_unit}
 use Rattle.def_sequence_form.proofs.Sets.{form_numbers_as_the_tree}
 use Rattle.def_cert_verdict.specs.Ranges.{FractionFits, HeadFits}
-use Rattle.def_command.specs.Grammar.{Settings}
+use Rattle.def_command.specs.declared.Settings.{Settings}
 use Rattle.def_command.specs.GrammarLaws.{InRange}
 use Rattle.def_program.specs.Text.{game_head}
 

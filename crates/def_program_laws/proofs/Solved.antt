@@ -33,7 +33,8 @@ use Rattle.def_sequence_form.proofs.Sets.{form_numbers_as_the_tree}
 use Rattle.def_check.specs.Check.{Refusal, checked, most_cert_bytes, of_certificate}
 use Rattle.def_check.specs.Checking.{passed, unreadable}
 use Rattle.def_check.proofs.Checked.{checks_are}
-use Rattle.def_command.specs.Grammar.{Check, Command, Settings, command_of_words}
+use Rattle.def_command.specs.Grammar.{Check, Command, command_of_words}
+use Rattle.def_command.specs.declared.Settings.{Settings}
 use Rattle.def_command.specs.GrammarLaws.{InRange}
 use Rattle.def_command.proofs.InRange.{cards_in_range, settings_in_range}
 use Rattle.def_canon.specs.Canon.{canon}

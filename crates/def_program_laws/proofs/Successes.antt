@@ -18,7 +18,8 @@ use Rattle.def_cert_text.specs.Versions.{VersionedCertificate}
 use Rattle.def_cert_text.specs.CertText.{versioned_text}
 use Rattle.def_cert_versions.specs.Verdict.{upgraded}
 use Rattle.def_cert_verdict.specs.Verdict.{Verdict}
-use Rattle.def_command.specs.Grammar.{Batch, Check, Command, Drill, Gen, Info, Plus, Settings, Solve, Upgrade, command_of_words}
+use Rattle.def_command.specs.Grammar.{Batch, Check, Command, Drill, Gen, Info, Plus, Solve, Upgrade, command_of_words}
+use Rattle.def_command.specs.declared.Settings.{Settings}
 use Rattle.def_command.proofs.InRange.{cards_in_range}
 use Rattle.def_program.specs.CheckLines.{check_text, upgraded_text, verdict_text}
 use Rattle.def_plus.specs.declared.Variant.{Variant}

@@ -7,7 +7,8 @@ use Rattle.std.specs.Prelude.{◌≡◌, ◌↔◌, ℕ, List, ◌++◌, Option,
 use Rattle.def_cert_verdict.specs.Verdict.{Verdict}
 use Rattle.def_cert_text.specs.Versions.{VersionedCertificate}
 use Rattle.def_check.specs.Checking.{Checks, IsTextOf}
-use Rattle.def_command.specs.Grammar.{Batch, Check, Command, Drill, Gen, Info, Plus, Settings, Solve, Upgrade}
+use Rattle.def_command.specs.Grammar.{Batch, Check, Command, Drill, Gen, Info, Plus, Solve, Upgrade}
+use Rattle.def_command.specs.declared.Settings.{Settings}
 use Rattle.def_command.specs.Grammar.{command_of_words}
 use Rattle.def_program.specs.Text.{played_text}
 use Rattle.def_batch.specs.Batch.{Kept, item_of}

@@ -12,7 +12,9 @@ use Rattle.def_cert_versions.specs.Verdict.{in_version_two}
 use Rattle.def_check.specs.Accepted.{IsAccepted}
 use Rattle.def_cert_text.specs.declared.fault.CertFault.TheVariants.{CertSyntax}
 use Rattle.def_check.specs.Check.{checked, most_cert_bytes, of_certificate}
-use Rattle.def_command.specs.Grammar.{Check, Drill, Gen, RowSettings, Settings, Solve, Upgrade, command_of_words}
+use Rattle.def_command.specs.Grammar.{Check, Drill, Gen, Solve, Upgrade, command_of_words}
+use Rattle.def_command.specs.declared.RowSettings.{RowSettings}
+use Rattle.def_command.specs.declared.Settings.{Settings}
 use Rattle.def_command.specs.GrammarLaws.{InRange}
 use Rattle.def_plus.specs.declared.Variant.TheVariants.{Plain, Plus}
 use Rattle.def_program.specs.Text.{game_head, game_certificate, played_text, solve_text}

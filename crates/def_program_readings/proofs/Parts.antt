@@ -8,7 +8,7 @@ use Rattle.def_cert_versions.specs.Verdict.{in_version_two}
 use Rattle.def_check.specs.Accepted.{IsAccepted}
 use Rattle.def_plus.specs.declared.Variant.{Variant}
 use Rattle.def_plus.specs.declared.Variant.TheVariants.{Plain, Plus}
-use Rattle.def_command.specs.Grammar.{Settings}
+use Rattle.def_command.specs.declared.Settings.{Settings}
 use Rattle.def_cert_accepted.specs.Bounds.{BoundsHold}
 use Rattle.def_program.specs.Bounds.{IsPartOf, PlayedPart, WroteBounds, game_bounds, written_alone}
 use Rattle.def_program.specs.Text.{game_head, text_of_variant}

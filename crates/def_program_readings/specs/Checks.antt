@@ -12,7 +12,9 @@ use Rattle.def_check.specs.Accepted.{IsAccepted}
 use Rattle.def_check.specs.Checking.{IsTextOf}
 use Rattle.def_game_numbers.specs.Weighed.{weighed_game}
 use Rattle.def_plus.specs.declared.Variant.TheVariants.{Plain}
-use Rattle.def_command.specs.Grammar.{Batch, Check, Drill, Gen, Info, Plus, RowSettings, Settings, Solve, Upgrade}
+use Rattle.def_command.specs.Grammar.{Batch, Check, Drill, Gen, Info, Plus, Solve, Upgrade}
+use Rattle.def_command.specs.declared.RowSettings.{RowSettings}
+use Rattle.def_command.specs.declared.Settings.{Settings}
 use Rattle.def_command.specs.Grammar.{command_of_words}
 use Rattle.def_cert_accepted.specs.Bounds.{BoundsHold}
 use Rattle.def_program.specs.CheckLines.{verdict_text}

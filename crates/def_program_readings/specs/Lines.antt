@@ -6,7 +6,9 @@ use Rattle.def_file.specs.declared.FileFault.{FileFault}
 use Rattle.def_file.specs.declared.FileFault.TheVariants.{TooLong}
 use Rattle.def_cert_verdict.specs.declared.fault.TestFault.{TestFault}
 use Rattle.def_cert_text.specs.declared.fault.CertFault.{CertFault}
-use Rattle.def_command.specs.Grammar.{Batch, Check, Drill, Gen, Info, Plus, RowSettings, Settings, Solve, Upgrade}
+use Rattle.def_command.specs.Grammar.{Batch, Check, Drill, Gen, Info, Plus, Solve, Upgrade}
+use Rattle.def_command.specs.declared.RowSettings.{RowSettings}
+use Rattle.def_command.specs.declared.Settings.{Settings}
 use Rattle.def_command.specs.Grammar.{command_of_words}
 use Rattle.def_program.specs.CheckLines.{cert_fault_line, cert_long_line, test_fault_line}
 use Rattle.def_program.specs.Lines.{IsCheck, IsLine, SaysLine}

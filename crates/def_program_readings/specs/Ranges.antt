@@ -1,7 +1,7 @@
 -- Ranges in plain numbers.
 use Rattle.std.specs.Prelude.{◌≡◌, ◌↔◌, ℕ, ◌≤◌, List, length, Some, None}
 use Rattle.def_reply.specs.Offers.{most_divisor}
-use Rattle.def_command.specs.Grammar.{Settings}
+use Rattle.def_command.specs.declared.Settings.{Settings}
 use Rattle.def_command.specs.GrammarLaws.{CardsInRange, FilesInRange, InPlusRange, InRange}
 use Rattle.def_command.specs.Table.{Batch, Workers, default_number}
 

@@ -9,7 +9,7 @@ use Rattle.std.proofs.lemmas.Option.{same_Some}
 use Rattle.def_outside.specs.Calls.{FilesCall, HasNoFault, SinkCall}
 use Rattle.def_batch.specs.Batch.{BatchEntry, batch_entries, batch_entry, batch_room, entry_bytes, item_of, kept_bytes}
 use Rattle.def_file.specs.Reading.{most_bytes}
-use Rattle.def_command.specs.Grammar.{Settings}
+use Rattle.def_command.specs.declared.Settings.{Settings}
 use Rattle.def_program.specs.BatchText.{batch_text, parts_text}
 use Rattle.def_program.specs.Meaning.{AllMean, MeansOnly}
 use Rattle.def_program.specs.Program.{success}

@@ -3,7 +3,9 @@ use Rattle.std.proofs.Common.{◌≡◌, ℕ, ◌≤◌, List, Option, Some, Non
 use Rattle.std.specs.Prelude.{unwrap_or}
 use Rattle.def_sums.specs.Limits.{most_workers}
 use Rattle.def_plus.specs.declared.Variant.TheVariants as variants
-use Rattle.def_command.specs.Grammar.{Batch, Drill, Plus, RowSettings, Settings, Solve, command_of_words}
+use Rattle.def_command.specs.Grammar.{Batch, Drill, Plus, Solve, command_of_words}
+use Rattle.def_command.specs.declared.RowSettings.{RowSettings}
+use Rattle.def_command.specs.declared.Settings.{Settings}
 use Rattle.def_command.specs.GrammarLaws.{InRange}
 use Rattle.def_command.proofs.InRange.{settings_in_range}
 use Rattle.xg_engine.specs.State.{AreWithinLimits, AreWithinLimitsOf}

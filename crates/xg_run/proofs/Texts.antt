@@ -13,7 +13,7 @@ use Rattle.def_plus.specs.declared.Variant.{Variant}
 use Rattle.def_plus_run.specs.VariantRun.{run_of, outcome_of}
 use Rattle.def_cert_accepted.specs.OfOutcome.{certificate_of}
 use Rattle.def_cert_versions.specs.Verdict.{in_version_two}
-use Rattle.def_command.specs.Grammar.{Settings}
+use Rattle.def_command.specs.declared.Settings.{Settings}
 use Rattle.def_program.specs.Text.{form_of_file, game_head, between_marks, played_text, text_of_variant}
 use Rattle.xg_engine.specs.State.{head_with}
 use Rattle.def_command.specs.declared.Settings.{Settings as RunSettings}
