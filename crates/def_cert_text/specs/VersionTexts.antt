@@ -9,8 +9,8 @@ use Rattle.def_cert_verdict.specs.Pennies.{pennies_head, scale_one_bounds, scale
 use Rattle.def_cert_text.specs.Versions.{PrintedBracket, VersionedCertificate}
 use Rattle.def_cert_text.specs.Laws.{with_second}
 
--- ---- changed texts: what stands between line feeds becomes other lines, from the first to the last number, where lines
--- count from 1
+-- ---- changed texts: what stands between line feeds becomes other lines, from the first to the last number, where
+-- lines count from 1
 abbrev pub between_feeds : List (List ℕ) → List ℕ
 between_feeds [] = []
 between_feeds (line ∷ []) = line

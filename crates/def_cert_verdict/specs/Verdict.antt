@@ -127,7 +127,8 @@ trace_tests k (a ∷ b ∷ lines) = (if is_wider b a then Some (TraceWidens (k +
 abbrev pub first_trace_line : ℕ
 first_trace_line = 8
 
--- ---- all of them: both plans, player two's sets and total, player one's, and the trace, whose first line has this number
+-- ---- all of them: both plans, player two's sets and total, player one's, and the trace, whose first line has this
+-- number
 abbrev pub bounds_tests : WeighedGame → ℕ → ℕ → PrintedBounds → List (Option TestFault)
 bounds_tests game first scale b =
     let form = game.form in

@@ -68,7 +68,8 @@ module _ (limit : ℕ) where
   AreSingle-cut_each : (count : ℕ) (jobs : List Forest) → AreSingle jobs → AreSingle (cut_each limit count jobs)
   AreSingle-cut_each count [] h = tt
   AreSingle-cut_each count (job ∷ rest) h =
-      elim (is_cut limit count job) as (λ b. AreSingle (cond b (subtrees job ++ cut_each limit (count_after count job) rest) (job ∷ cut_each limit count rest))) [
+      elim (is_cut limit count job) as (λ b.
+      AreSingle (cond b (subtrees job ++ cut_each limit (count_after count job) rest) (job ∷ cut_each limit count rest))) [
         | true ↦ AreSingle-append (subtrees job) (cut_each limit (count_after count job) rest) (AreSingle-subtrees job)
             (AreSingle-cut_each (count_after count job) rest h.1)
         | false ↦ (h.0, AreSingle-cut_each count rest h.1)

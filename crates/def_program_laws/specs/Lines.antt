@@ -34,7 +34,8 @@ HasItsLine status bytes = (words : List (List ℕ)) (taken : ℕ) (line : List �
 
 -- each status from 2 to 5 has one line, and a line goes with no other status but 1
 pub record StatusesHaveTheirLines : Type 0 where
-  pub words : HasItsLine 2 (codes "usage: xg_solve solve FILE [--rounds N] [--every N] [--scale N] [--workers N] [--atomic N]"
+  pub words : HasItsLine 2
+      (codes "usage: xg_solve solve FILE [--rounds N] [--every N] [--scale N] [--workers N] [--atomic N]"
       ++ codes " | check FILE CERT | upgrade FILE CERT | info FILE | gen N | drill N | plus FILE | batch FILE...\n")
   pub reading : HasItsLine 3 (codes "read fault\n")
   pub writing : HasItsLine 4 (codes "write fault\n")
