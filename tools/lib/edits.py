@@ -40,6 +40,8 @@ pub {name}_spec : {{M : Type 1}} → statement M
 """
 # What the toolchain says of an edit that takes away a name which a proof file has.
 ONLY_NAMES = "only because a proof file names what the edit took away"
+# What it says of one whose check met a limit of the prover's own.
+AT_A_LIMIT = "refused, as it must be (only by a limit of the prover"
 # What was kept and not asked for in so many seconds is removed.
 LONGEST = 90 * 24 * 3600
 
@@ -285,6 +287,13 @@ class Trial:
             ran.stdout = "\n".join([*lines, "logic=not-proved"])
         return ran
 
+    def ask(self, crate, edit, flags):
+        """Whether the toolchain refuses an edit, and what it says. It has a word for that, or, in older ones, a truth.
+        A limit of the prover's is no verdict, though the toolchain lets it pass."""
+        came, said = self.toolchain.must_fail(crate, edit, flags)
+        said = said.replace(AT_A_LIMIT, "NOT REFUSED (stopped by a limit of the prover")
+        return came == getattr(self.toolchain, "REFUSED", True), said
+
     def judge(self, crate, name):
         """What the toolchain says of an edit: on its functions, and where they don't decide, on the whole crate."""
         edit, jobs = pathlib.Path(crate.folder, self.folder, name), ["--jobs", "1"]
@@ -297,9 +306,9 @@ class Trial:
             return found
         functions = functions_of(edit, pathlib.Path(crate.folder))
         flags = [*jobs, *(word for it in functions for word in ("--only", it))]
-        is_refused, said = functions and self.toolchain.must_fail(crate, edit, flags) or (False, "")
+        is_refused, said = self.ask(crate, edit, flags) if functions else (False, "")
         if not is_refused:
-            is_refused, said = self.toolchain.must_fail(crate, edit, jobs)
+            is_refused, said = self.ask(crate, edit, jobs)
         said = " ".join(said.partition(f"{name}: ")[2].split())
         if is_refused:
             self.kept.keep(key, said)
