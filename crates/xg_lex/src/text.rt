@@ -79,6 +79,7 @@ impl<'a> TextView<'a> {
     }
 
     /// The same text.
+    #[inline(always)]
     pub fn again(&self) -> TextView<'a>
         ensures { result ≡ self.now }
     {

@@ -81,8 +81,8 @@ impl<'a> Tokens<'a> {
 fn is_space(byte: u8) -> bool
     ensures { result ≡ is_space byte }
 {
-    // Most bytes are above the space, and one comparison passes them.
-    byte <= b' ' && matches!(byte, 9..=13 | b' ')
+    // Most white space is the space itself.
+    byte == b' ' || matches!(byte, 9..=13)
 }
 
 #[inline(always)]
@@ -123,7 +123,19 @@ fn space_len(bytes: &[u8]) -> usize
     ensures value { result ≡ prefix_len is_space bytes.now }
     ensures within { result ≤ length bytes.now }
 {
+    if is_one_space(bytes) {
+        return 1;
+    }
     bytes.iter().take_while(|byte| is_space(**byte)).count()
+}
+
+/// Whether white space stands at the front and a byte above all white space behind it, as between most tokens.
+#[inline(always)]
+fn is_one_space(bytes: &[u8]) -> bool
+    ensures one { IsTrue result → prefix_len is_space bytes.now ≡ 1 }
+    ensures some { IsTrue result → 1 ≤ length bytes.now }
+{
+    bytes.len() > 1 && bytes[1] > b' ' && is_space(bytes[0])
 }
 
 /// How many bytes of a run stand at the front.
@@ -132,7 +144,19 @@ fn run_len(bytes: &[u8]) -> usize
     ensures value { result ≡ prefix_len in_run bytes.now }
     ensures within { result ≤ length bytes.now }
 {
+    if is_one_byte(bytes) {
+        return 1;
+    }
     bytes.iter().take_while(|byte| in_run(**byte)).count()
+}
+
+/// Whether a byte of a run stands at the front and white space behind it: most runs are one letter or one digit.
+#[inline(always)]
+fn is_one_byte(bytes: &[u8]) -> bool
+    ensures one { IsTrue result → prefix_len in_run bytes.now ≡ 1 }
+    ensures some { IsTrue result → 1 ≤ length bytes.now }
+{
+    bytes.len() > 1 && bytes[1] <= b' ' && is_space(bytes[1]) && in_run(bytes[0])
 }
 
 /// The token that begins at `start`, or the end.

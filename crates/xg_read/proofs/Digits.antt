@@ -1,5 +1,5 @@
--- The number of one digit, and the literals of one digit.
-use Rattle.std.proofs.Common.{◌≡◌, ℕ, zero, suc, ◌+◌, ◌-◌, ◌<◌, ◌≤◌, w64, pos, ◌-ℤ◌, to_z, of_z, subst, true, List, [], ◌∷◌, length, get_or, Ok, refl, sym, ap}
+-- The numbers of one digit and of two, and the literals of one digit.
+use Rattle.std.proofs.Common.{◌≡◌, ℕ, zero, suc, ◌+◌, ◌-◌, ◌*◌, ◌<◌, ◌≤◌, w64, pos, ◌-ℤ◌, to_z, of_z, subst, true, List, [], ◌∷◌, length, get_or, Ok, refl, sym, ap}
 use Rattle.std.proofs.Common.{arith}
 use Rattle.std.specs.Prelude.{nat_le}
 use Rattle.std.specs.Char.{is_ascii_digit}
@@ -20,6 +20,22 @@ one_digit (b ∷ []) one above below =
     let numeral : is_numeral (b ∷ []) ≡ true = rw digit refl in
     let value : number_of (b ∷ []) ≡ b - 48 = omega arith in
     let small : nat_le (number_of (b ∷ [])) most ≡ true = le-leb (number_of (b ∷ [])) most (omega (arith, value)) in
+    rw (numeral, small) (ap Ok (sym value))
+
+-- two digits alone are read as ten times the first and the second
+pub two_digits : (bytes : List ℕ) → length bytes ≡ 2 → 48 ≤ get_or bytes 0 0 → get_or bytes 0 0 ≤ 57
+    → 48 ≤ get_or bytes 1 0 → get_or bytes 1 0 ≤ 57
+    → Ok ((get_or bytes 0 0 - 48) * 10 + (get_or bytes 1 0 - 48)) ≡ read_as_whole bytes
+unfolding read_as_whole
+two_digits [] two above below above_one below_one = absurd (omega arith)
+two_digits (a ∷ []) two above below above_one below_one = absurd (omega arith)
+two_digits (a ∷ b ∷ c ∷ bytes) two above below above_one below_one = absurd (omega arith)
+two_digits (a ∷ b ∷ []) two above below above_one below_one =
+    let first : is_ascii_digit a ≡ true = and_from (nat_le 48 a) (nat_le a 57) (le-leb 48 a above) (le-leb a 57 below) in
+    let second : is_ascii_digit b ≡ true = and_from (nat_le 48 b) (nat_le b 57) (le-leb 48 b above_one) (le-leb b 57 below_one) in
+    let numeral : is_numeral (a ∷ b ∷ []) ≡ true = rw (first, second) refl in
+    let value : number_of (a ∷ b ∷ []) ≡ (a - 48) * 10 + (b - 48) = omega arith in
+    let small : nat_le (number_of (a ∷ b ∷ [])) most ≡ true = le-leb (number_of (a ∷ b ∷ [])) most (omega (arith, value)) in
     rw (numeral, small) (ap Ok (sym value))
 
 -- each number below ten is one of the ten

@@ -118,7 +118,7 @@ fn read_set(bytes: &[u8]) -> Result<u64, NumberFault>
     }
 }
 
-/// The number that the bytes write in digits. Most are one digit.
+/// The number that the bytes write in digits. Most are one digit or two.
 #[inline(always)]
 fn read_number(bytes: &[u8]) -> Result<u64, NumberFault>
     ensures exact { result ≡ read_as_whole bytes.now }
@@ -126,6 +126,9 @@ fn read_number(bytes: &[u8]) -> Result<u64, NumberFault>
 {
     match bytes {
         [digit @ b'0'..=b'9'] => Ok((*digit - b'0') as u64),
+        [ten @ b'0'..=b'9', one @ b'0'..=b'9'] => {
+            Ok((*ten - b'0') as u64 * 10 + (*one - b'0') as u64)
+        }
         _ => read_whole(bytes),
     }
 }

@@ -7,7 +7,7 @@ ghost use Rattle.xg_record.specs.Seen.{action_seen};
 use crate::action::Actions;
 use crate::payoffs::Payoffs;
 use crate::record::Record;
-use crate::views::{ActionView, ActionViews};
+use crate::views::{ActionView, ActionViews, view_again};
 use def_file::EntryKind;
 use xg_lex::{Text, TextView};
 
@@ -21,6 +21,17 @@ pub enum EntryActions<'a> {
 }
 
 impl<'a> EntryActions<'a> {
+    /// The same actions.
+    #[inline(always)]
+    pub fn again(&self) -> EntryActions<'a>
+        ensures { result ≡ self.now }
+    {
+        match self {
+            EntryActions::Owned(actions) => EntryActions::Owned(actions),
+            EntryActions::Viewed(actions) => EntryActions::Viewed(actions),
+        }
+    }
+
     /// How many actions there are.
     pub fn len(&self) -> usize
         ensures { result ≡ length (actions_seen self.now) }
@@ -57,6 +68,30 @@ pub struct EntryView<'a> {
     pub outcome: u64,
     pub outcome_name: Option<TextView<'a>>,
     pub payoffs: Option<&'a Payoffs>,
+}
+
+impl<'a> EntryView<'a> {
+    /// The same entry.
+    #[inline(always)]
+    pub fn again(&self) -> EntryView<'a>
+        ensures { result ≡ self.now }
+    {
+        EntryView {
+            file: self.file,
+            kind: self.kind,
+            name: self.name.again(),
+            player: self.player,
+            set: self.set,
+            set_name: view_again(&self.set_name),
+            actions: match &self.actions {
+                Some(actions) => Some(actions.again()),
+                None => None,
+            },
+            outcome: self.outcome,
+            outcome_name: view_again(&self.outcome_name),
+            payoffs: self.payoffs,
+        }
+    }
 }
 
 impl Record {

@@ -12,4 +12,4 @@ pub use def_file::EntryKind;
 pub use entry::{EntryActions, EntryView};
 pub use payoffs::Payoffs;
 pub use record::Record;
-pub use views::{ActionView, ActionViews};
+pub use views::{ActionView, ActionViews, view_again};

@@ -91,3 +91,14 @@ impl<'a> ActionViews<'a> {
         }
     }
 }
+
+/// The same text, if there is one.
+#[inline(always)]
+pub fn view_again<'a>(text: &Option<TextView<'a>>) -> Option<TextView<'a>>
+    ensures { result ≡ text.now }
+{
+    match text {
+        Some(text) => Some(text.again()),
+        None => None,
+    }
+}

@@ -1,3 +1,2 @@
 pub mod FirstPlans
 pub mod Placing
-pub mod RowSizes

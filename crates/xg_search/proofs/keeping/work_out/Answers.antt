@@ -1,7 +1,7 @@
 use Rattle.std.proofs.Common.{arith}
 use Rattle.def_sums.specs.Limits.{most_root}
 use Rattle.def_plan.specs.Form.{player_sets}
-use Rattle.xg_search.proofs.RowSizes.{small_in_evaluation, small_numbers}
+use Rattle.xg_reply.proofs.RowSizes.{small_in_evaluation, small_numbers}
 use Rattle.xg_search.proofs.keeping.work_out.Goals as goal
 
 pub write_rows_of-requires-clause-small : goal.write_rows_of-requires-clause-small
