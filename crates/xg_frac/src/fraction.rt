@@ -203,7 +203,8 @@ fn quotient(n: u128, divisor: u128) -> u128
     n / divisor
 }
 
-fn with_sign(negative: bool, size: u64) -> i64
+/// The number of this sign and this size.
+pub fn with_sign(negative: bool, size: u64) -> i64
     requires { size < 2 ^ 63 }
     ensures { result ≡ signed negative size }
 {

@@ -11,7 +11,7 @@ mod wide;
 
 pub use arithmetic::{add, compare, lcm, mul, ratio};
 pub use def_fraction::{MOST_PART, NumberFault};
-pub use fraction::{Frac, OverLimit, one_over, whole, zero};
+pub use fraction::{Frac, OverLimit, one_over, whole, with_sign, zero};
 pub use literal::{PAST, read_literal, read_whole};
 pub use printing::{put_frac, put_int, put_ratio};
 pub use wide::Ratio;

@@ -159,7 +159,7 @@ fn form_of(alloc: Global, tree: &Tree, weights: &Weights) -> Result<SeqForm, Ref
     ensures broken { (fault : FileFault) → result ≡ Err (Refused.File fault) → IsBreakOf tree.now fault }
 {
     let sets = sets_of(alloc, tree)?;
-    match SeqForm::build(alloc, tree, &sets, weights.leaves()) {
+    match SeqForm::of(alloc, tree, sets, weights.leaves()) {
         Ok(form) => Ok(form),
         Err(_) => Err(Refused::NoMemory),
     }

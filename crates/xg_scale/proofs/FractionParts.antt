@@ -8,9 +8,10 @@ use Rattle.std.proofs.lemmas.Nat.Gcd.{dvd-zero, dvd_antisymm, dvd_of_mod-eq-zero
 use Rattle.std.proofs.Math.IntN.{pos-*ℤ-pos}
 use Rattle.std.proofs.Math.Nat.{zero-div, one-mul}
 use Rattle.def_fraction.specs.Divisors.{gcd, lcm}
-use Rattle.def_fraction.specs.Fraction.{Fraction, IsInLowestTerms, fraction_of, sum_of, without_factor, zero_fraction, is_zero}
+use Rattle.def_fraction.specs.Fraction.{Fraction, IsInLowestTerms, fraction_of, product_of, sum_of, without_factor, zero_fraction, is_zero}
 use Rattle.def_fraction.proofs.DivisorLemmas.{IsGcd-gcd, IsLcm-lcm}
 use Rattle.def_fraction.proofs.FractionLemmas.{fraction_of-lowest, neg-times, unsigned_abs-without_factor}
+use Rattle.def_sums.proofs.RingLaws.{one-*ℤ}
 use Rattle.def_game_scale.proofs.Nodes.{no_size}
 use Rattle.def_game_scale.proofs.Units.{lcm-positive}
 
@@ -87,6 +88,13 @@ zero_numerator n d none =
 pub opposite_sum : (a b : Fraction) → a.num ≡ neg_ℤ b.num → a.den ≡ b.den → is_zero (sum_of a b) ≡ true
 opposite_sum a b num den =
     zero_numerator _ (a.den * b.den) (ap (λ n. (a.num *ℤ pos b.den) +ℤ (b.num *ℤ pos n)) den ∙ opposites_cancel a.num b.num b.den num)
+
+-- 1 times a fraction is the fraction
+pub one_times : (f g : Fraction) → f.num ≡ pos 1 → f.den ≡ 1 → IsInLowestTerms g → product_of f g ≡ g
+one_times f g one whole low =
+    let num : f.num *ℤ g.num ≡ g.num = ap (λ z. z *ℤ g.num) one ∙ one-*ℤ g.num in
+    let den : f.den * g.den ≡ g.den = ap (λ n. n * g.den) whole ∙ one-mul g.den in
+    (λ i. fraction_of (num i) (den i)) ∙ fraction_of-lowest g low
 
 -- a unit that the denominator divides stays
 pub unit_stays : (den unit : ℕ) → 1 ≤ den → 1 ≤ unit → unit % den ≡ 0 → lcm den unit ≡ unit

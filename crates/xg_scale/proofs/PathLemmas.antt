@@ -84,7 +84,7 @@ module _ (game : GameFile) (lowest : AreFractions (tables_of game)) (whole : IsW
     sum : expected.sum ≡ known_sum tables (take n all)
     unit : expected.unit ≡ unit_so_far tables (take n all)
     limit : expected.unit ≤ most
-    fractions : expected.fractions.items ≡ expected_at tables (take n all)
+    fractions : expected.fractions ≡ expected_at tables (take n all)
     range : IsRangeOf (payoffs_at tables (take n all)) expected.range
 
   record GoesOn (n : ℕ) (innermost : NodeOnPath) (outer : List NodeOnPath) (walk : PathWalk) : Type 0 where

@@ -1,5 +1,6 @@
 pub mod FaultOfFile
 pub mod Chance
+pub mod Fractions
 pub mod Leaf
 pub mod OnPath
 pub mod Outer

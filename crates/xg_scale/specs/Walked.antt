@@ -92,7 +92,7 @@ pub record HasEntered (old : PathWalk) (k : ℕ) (node : Node) (new : PathWalk) 
   pub sum : new.expected.sum ≡ known_with node old.expected.sum (numbers_at_next old node)
   pub unit : new.expected.unit ≡ unit_with node old.expected.sum old.expected.unit (numbers_at_next old node)
   pub limit : new.expected.unit ≤ most
-  pub fractions : new.expected.fractions.items ≡ old.expected.fractions.items
+  pub fractions : new.expected.fractions ≡ old.expected.fractions
       ++ with_expected node (numbers_at_next old node)
   pub range : TakesIn node (numbers_at_next old node) old.expected.range new.expected.range
   pub innermost : new.innermost ≡ entered_node node (numbers_at_next old node)
@@ -126,7 +126,7 @@ pub record IsBefore (game : GameFile) (visitor : PathVisitor) : Type 0 where
   pub outer : visitor.walk.outer ≡ []
   pub sum : visitor.walk.expected.sum ≡ None
   pub unit : visitor.walk.expected.unit ≡ 1
-  pub fractions : visitor.walk.expected.fractions.items ≡ []
+  pub fractions : visitor.walk.expected.fractions ≡ []
   pub range : visitor.walk.expected.range ≡ None
 
 -- no node has a fault, and this is what all leaves are expected to pay, with their sum, their unit and their range
@@ -135,5 +135,5 @@ pub record IsExpectedOf (tables : Tables) (tree : Forest) (found : Expected) : T
   pub sum : unwrap_or found.sum zero_fraction ≡ game_sum tables tree
   pub unit : found.unit ≡ game_unit tables tree
   pub limit : found.unit ≤ most
-  pub fractions : found.fractions.items ≡ all_expected tables tree
+  pub fractions : found.fractions ≡ all_expected tables tree
   pub range : IsRangeOf (leaf_payoffs tables tree) found.range

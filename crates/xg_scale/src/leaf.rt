@@ -1,5 +1,5 @@
 //! What a leaf pays both players together, what it is expected to pay, and the unit.
-ghost use Rattle.std.specs.Prelude.{◌≡◌, ◌≤◌, ◌%◌, ◌↔◌, ◌++◌, None, neg_ℤ, IfErr, IfOk, IsTrue, OkIff, OnOk};
+ghost use Rattle.std.specs.Prelude.{◌≡◌, ◌≤◌, ◌%◌, ◌↔◌, ◌++◌, None, neg_ℤ, pos, IfErr, IfOk, IsTrue, OkIff, OnOk};
 ghost use Rattle.def_fraction.specs.Divisors.{lcm};
 ghost use Rattle.def_fraction.specs.Fraction.{fits, most, product_of, sum_of};
 ghost use Rattle.def_game_scale.specs.Faults as faults;
@@ -7,6 +7,7 @@ ghost use Rattle.xg_scale.specs.FaultOfFile.{IsFaultOf, RefusesBy};
 ghost use Rattle.xg_scale.specs.Leaf.{TakesIn, judged_leaf, judged_node, known_with, leaf_unit, sum_from_first};
 ghost use Rattle.xg_scale.specs.Leaf.{unit_with, with_expected};
 
+use crate::fractions::Fractions;
 use crate::parts::{denominator, known};
 use crate::path::PathNumbers;
 use crate::range::{PayoffRange, range_with};
@@ -21,7 +22,7 @@ use xg_tree::{Node, is_leaf};
 pub(crate) struct Expected {
     pub(crate) sum: Option<Frac>,
     pub(crate) unit: u64,
-    pub(crate) fractions: Vec<Frac>,
+    pub(crate) fractions: Fractions,
     pub(crate) range: Option<PayoffRange>,
 }
 
@@ -36,7 +37,7 @@ impl Expected {
         ensures unit { OnOk result (self.new.unit ≡ unit_with node self.old.sum self.old.unit numbers.now) }
         ensures limit { OnOk result (self.new.unit ≤ most) }
         ensures fractions { OnOk result
-            (self.new.fractions.items ≡ self.old.fractions.items ++ with_expected node numbers.now) }
+            (self.new.fractions ≡ self.old.fractions ++ with_expected node numbers.now) }
         ensures range { OnOk result (TakesIn node numbers.now self.old.range self.new.range) }
         ensures err { IfErr result (RefusesBy (judged_node k node self.old.sum self.old.unit numbers.now)) }
     {
@@ -86,7 +87,7 @@ fn judge_leaf(
     if !is_same(paid, sum) {
         return Err(FileFault::NotConstantSum { node: k });
     }
-    let Ok(expected) = mul(numbers.reach, numbers.one) else {
+    let Ok(expected) = reach_times(numbers.reach, numbers.one) else {
         return Err(FileFault::Scale { node: k });
     };
     let Ok(unit) = unit_with_leaf(sum, expected, so_far) else {
@@ -97,6 +98,25 @@ fn judge_leaf(
         expected,
         unit,
     })
+}
+
+/// What a leaf is expected to pay. Where chance doesn't move, each leaf has the reach 1.
+#[inline(always)]
+fn reach_times(reach: Frac, payoff: Frac) -> Result<Frac, OverLimit>
+    ensures { OkIff result (IsTrue (fits (product_of reach payoff))) (product_of reach payoff) }
+{
+    let payoff = known(payoff);
+    if is_number_one(reach) {
+        return Ok(payoff);
+    }
+    mul(reach, payoff)
+}
+
+/// Whether both parts are 1.
+fn is_number_one(f: Frac) -> bool
+    ensures { IsTrue result → (f.num ≡ pos 1) × (f.den ≡ 1) }
+{
+    f.num() == 1 && f.den() == 1
 }
 
 /// The unit so far with the denominators of the sum and of what a leaf is expected to pay.

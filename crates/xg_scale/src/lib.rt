@@ -2,6 +2,7 @@
 //! A game in whole numbers: the unit by which its payoffs are multiplied, the weights of its leaves and their mass.
 
 mod chance;
+mod fractions;
 mod leaf;
 mod nodes;
 mod outer;

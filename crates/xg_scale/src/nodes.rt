@@ -11,6 +11,7 @@ ghost use Rattle.xg_scale.specs.OnPath.{HasNodeAround, chance_set_of, entered_no
 ghost use Rattle.xg_scale.specs.Walked.{HasEntered, HasLeft, IsBefore, IsExpectedOf, MayCome, MayComeNext, all_fit};
 ghost use Rattle.xg_scale.specs.Walked.{next_fault, numbers_below, paid_to, reach_below};
 
+use crate::fractions::Fractions;
 use crate::leaf::Expected;
 use crate::outer::OuterPath;
 use crate::parts::known;
@@ -47,7 +48,7 @@ impl<'a> PathVisitor<'a> {
     fn new(alloc: Global, game: &'a Game) -> Result<PathVisitor<'a>, AllocError>
         ensures { IfOk result (IsBefore game.now) }
     {
-        let fractions = Vec::with_capacity(alloc, game.tree().leaves() as usize)?;
+        let fractions = Fractions::with_capacity(alloc, game.tree().leaves() as usize)?;
         let walk = PathWalk {
             game,
             innermost: empty_path(),
