@@ -16,6 +16,7 @@ use xg_record::{ActionView, EntryActions};
 use xg_tree::Kind;
 
 /// Whether texts have the same bytes.
+#[inline(always)]
 pub(crate) fn same_text(a: &Text, b: &TextView<'_>) -> bool
     ensures { result ≡ faults.same_text a.now b.now }
 {
@@ -41,6 +42,7 @@ fn same_action(kind: Kind, name: &[u8], chance: Frac, given: &ActionView<'_>) ->
 }
 
 /// Whether a name is given that differs from the one that is kept.
+#[inline(always)]
 pub(crate) fn name_differs(kept: &Option<Text>, given: &Option<TextView<'_>>) -> bool
     ensures { result ≡ faults.name_differs kept.now given.now }
 {
@@ -51,6 +53,7 @@ pub(crate) fn name_differs(kept: &Option<Text>, given: &Option<TextView<'_>>) ->
 }
 
 /// Keeps the name that is given, unless one is kept already.
+#[inline(always)]
 pub(crate) fn keep_name(
     alloc: Global,
     kept: &mut Option<Text>,
@@ -79,6 +82,7 @@ pub(crate) fn to_keep(
 }
 
 /// Whether actions are given that differ in their number, a name or a probability from those that are kept.
+#[inline(always)]
 pub(crate) fn actions_differ(
     kind: Kind,
     kept: &ActionList<'_>,

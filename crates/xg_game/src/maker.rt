@@ -1,5 +1,5 @@
 //! The making of a game.
-ghost use Rattle.std.specs.Prelude.{◌≡◌, ◌≢◌, ◌≤◌, ◌↔◌, true, false, Some, None, Err, length, IsTrue, OnOk};
+ghost use Rattle.std.specs.Prelude.{◌≡◌, ◌≢◌, ◌≤◌, ◌↔◌, ◌||◌, true, false, Some, None, Err, is_some, length, IsTrue, OnOk};
 ghost use Rattle.def_fraction.specs.Fraction.{most};
 ghost use Rattle.def_file.specs.Adding.{with_record};
 ghost use Rattle.def_file.specs.Content.{game_with, no_contents};
@@ -130,6 +130,52 @@ impl GameMaker {
         ensures spent { (result ≡ Err Refused.NoMemory) ↔ (self.new.spent ≡ true) }
         ensures prologue { self.new.prologue ≡ self.old.prologue }
     {
+        if is_described(entry) {
+            return self.push_described(&entry.again());
+        }
+        self.push_placed(entry)
+    }
+
+    /// Takes an entry that says more of its set or its outcome than the number. It stands apart, since no other entry,
+    /// and most are such, then needs a place in memory.
+    #[inline(never)]
+    fn push_described(&mut self, entry: &EntryView<'_>) -> Result<(), Refused>
+        requires incomplete { wanted 1 self.old.contents.nodes ≢ 0 }
+        requires unspent { self.old.spent ≡ false }
+        requires outcome { entry.now.outcome ≤ most }
+        requires set { IsTrue (has_set entry.now.kind) → (1 ≤ entry.now.set) × (entry.now.set ≤ most) }
+        ensures ok { let contents = with_record self.old.contents (entry_seen entry.now) in
+            OnOk result (self.new ≡ record self.old { contents = contents }) }
+        ensures accepted { OnOk result (record_fault self.old.contents (entry_seen entry.now) ≡ None) }
+        ensures refused { (fault : FileFault) → result ≡ Err (Refused.File fault) →
+            (record_fault self.old.contents (entry_seen entry.now) ≡ Some fault) × (self.new ≡ self.old) }
+        ensures faults { (fault : FileFault) →
+            record_fault self.old.contents (entry_seen entry.now) ≡ Some fault →
+            result ≡ Err (Refused.File fault) }
+        ensures spent { (result ≡ Err Refused.NoMemory) ↔ (self.new.spent ≡ true) }
+        ensures prologue { self.new.prologue ≡ self.old.prologue }
+    {
+        self.push_placed(entry)
+    }
+
+    /// Takes the next entry, by the places of its set and its outcome.
+    #[inline(always)]
+    fn push_placed(&mut self, entry: &EntryView<'_>) -> Result<(), Refused>
+        requires incomplete { wanted 1 self.old.contents.nodes ≢ 0 }
+        requires unspent { self.old.spent ≡ false }
+        requires outcome { entry.now.outcome ≤ most }
+        requires set { IsTrue (has_set entry.now.kind) → (1 ≤ entry.now.set) × (entry.now.set ≤ most) }
+        ensures ok { let contents = with_record self.old.contents (entry_seen entry.now) in
+            OnOk result (self.new ≡ record self.old { contents = contents }) }
+        ensures accepted { OnOk result (record_fault self.old.contents (entry_seen entry.now) ≡ None) }
+        ensures refused { (fault : FileFault) → result ≡ Err (Refused.File fault) →
+            (record_fault self.old.contents (entry_seen entry.now) ≡ Some fault) × (self.new ≡ self.old) }
+        ensures faults { (fault : FileFault) →
+            record_fault self.old.contents (entry_seen entry.now) ≡ Some fault →
+            result ≡ Err (Refused.File fault) }
+        ensures spent { (result ≡ Err Refused.NoMemory) ↔ (self.new.spent ≡ true) }
+        ensures prologue { self.new.prologue ≡ self.old.prologue }
+    {
         let places = self.tables.places(entry);
         if let Some(fault) = self.tables.fault(entry, places) {
             return Err(Refused::File(fault));
@@ -155,4 +201,16 @@ impl GameMaker {
     pub fn discard(self) {
         drop(self);
     }
+}
+
+/// Whether an entry says more of its set or its outcome than the number.
+#[inline(always)]
+fn is_described(entry: &EntryView<'_>) -> bool
+    ensures { result ≡ (is_some entry.now.set_name || is_some entry.now.actions
+        || is_some entry.now.outcome_name || is_some entry.now.payoffs) }
+{
+    entry.set_name.is_some()
+        || entry.actions.is_some()
+        || entry.outcome_name.is_some()
+        || entry.payoffs.is_some()
 }

@@ -15,7 +15,7 @@ use std::alloc::{AllocError, Global};
 use std::marker::Model;
 use xg_frac::{Frac, zero};
 use xg_lex::TextView;
-use xg_record::{EntryView, Payoffs};
+use xg_record::{EntryView, Payoffs, view_again};
 
 /// The payoffs of both players.
 #[derive(Clone, Copy)]
@@ -149,6 +149,7 @@ impl OutcomeTable {
     }
 
     /// Notes a mention of an outcome.
+    #[inline(always)]
     pub(crate) fn note(
         &mut self,
         alloc: Global,
@@ -168,11 +169,12 @@ impl OutcomeTable {
         }
         match place {
             Some(i) => self.name(alloc, i, name),
-            None => self.add(alloc, file, number, name, payoffs),
+            None => self.add(alloc, file, number, &view_again(name), payoffs),
         }
     }
 
     /// Gives the outcome at `i` a name, unless it has one.
+    #[inline(always)]
     fn name(
         &mut self,
         alloc: Global,
@@ -224,6 +226,7 @@ fn payoff_at(payoffs: Option<&Payoffs>, i: usize) -> Frac
 }
 
 /// Whether there is a list that has other than two payoffs.
+#[inline(always)]
 fn has_wrong_payoffs(payoffs: Option<&Payoffs>) -> bool
     ensures { result ≡ faults.has_wrong_payoffs (option_map (λ p. p.now) payoffs.entry) }
 {
@@ -234,6 +237,7 @@ fn has_wrong_payoffs(payoffs: Option<&Payoffs>) -> bool
 }
 
 /// Whether payoffs are given that differ in their number or a value from those that are kept.
+#[inline(always)]
 fn payoffs_differ(one: Frac, two: Frac, given: Option<&Payoffs>) -> bool
     ensures { let kept = record faults.null_outcome { one = one; two = two } in
         result ≡ faults.payoffs_differ kept (option_map (λ p. p.now) given.entry) }

@@ -13,7 +13,7 @@ use crate::table::NumberTable;
 use std::alloc::{AllocError, Global};
 use std::marker::Model;
 use xg_lex::{Text, TextView};
-use xg_record::{EntryActions, EntryView};
+use xg_record::{EntryActions, EntryView, view_again};
 use xg_tree::{Kind, MOST_ACTIONS};
 
 /// What is known of a set: the first name that is given, and the actions of the first mention.
@@ -85,6 +85,7 @@ impl SetsOfKind {
     }
 
     /// What is known of the set at `i`.
+    #[inline(always)]
     pub(crate) fn get(&self, i: usize) -> SetDescription<'_>
         requires { i < length self.now }
         ensures name { result.name.now ≡ (faults.set_at self.now i).name }
@@ -98,6 +99,7 @@ impl SetsOfKind {
     }
 
     /// Whether the entry is the first to mention its set, and has no actions.
+    #[inline(always)]
     pub(crate) fn is_undefined(&self, entry: &EntryView<'_>, place: Option<usize>) -> bool
         requires { place ≡ faults.set_place_of entry.now.set self.now }
         ensures { result ≡ faults.is_set_undefined self.now (entry_seen entry.now).set }
@@ -106,6 +108,7 @@ impl SetsOfKind {
     }
 
     /// Whether the entry has another name or other actions than are kept of its set.
+    #[inline(always)]
     pub(crate) fn differs(&self, kind: Kind, entry: &EntryView<'_>, place: Option<usize>) -> bool
         requires { place ≡ faults.set_place_of entry.now.set self.now }
         ensures { result ≡ faults.set_differs kind self.now (entry_seen entry.now).set }
@@ -121,6 +124,7 @@ impl SetsOfKind {
     }
 
     /// Whether the entry is the first to mention its set, and has no action or too many.
+    #[inline(always)]
     pub(crate) fn is_miscounted(&self, entry: &EntryView<'_>, place: Option<usize>) -> bool
         requires { place ≡ faults.set_place_of entry.now.set self.now }
         ensures { result ≡ faults.is_set_miscounted self.now (entry_seen entry.now).set }
@@ -129,6 +133,7 @@ impl SetsOfKind {
     }
 
     /// The number of the entry's set among those of the table, which count from 1.
+    #[inline(always)]
     pub(crate) fn number_with(&self, entry: &EntryView<'_>, place: Option<usize>) -> u32
         requires place { place ≡ faults.set_place_of entry.now.set self.now }
         requires room { length self.now + 1 < 2 ^ 32 }
@@ -138,6 +143,7 @@ impl SetsOfKind {
     }
 
     /// How many actions the entry's set has.
+    #[inline(always)]
     pub(crate) fn action_count_with(&self, entry: &EntryView<'_>, place: Option<usize>) -> u32
         requires place { place ≡ faults.set_place_of entry.now.set self.now }
         requires few { adding.action_count self.now (entry_seen entry.now).set < 2 ^ 32 }
@@ -172,11 +178,18 @@ impl SetsOfKind {
     {
         match place {
             Some(i) => self.name(alloc, i, name),
-            None => self.add(alloc, file, number, name, actions.as_ref().unwrap()),
+            None => self.add(
+                alloc,
+                file,
+                number,
+                &view_again(name),
+                &actions.as_ref().unwrap().again(),
+            ),
         }
     }
 
     /// Gives the set at `i` a name, unless it has one.
+    #[inline(always)]
     fn name(
         &mut self,
         alloc: Global,
@@ -215,6 +228,7 @@ impl SetsOfKind {
 }
 
 /// Whether there is a list of actions that has none or too many.
+#[inline(always)]
 fn has_wrong_count(actions: &Option<EntryActions<'_>>) -> bool
     ensures { result ≡ faults.has_wrong_count (option_map actions_seen actions.now) }
 {
@@ -260,6 +274,7 @@ impl SetTables {
     }
 
     /// The sets of a kind.
+    #[inline(always)]
     pub(crate) fn of(&self, kind: Kind) -> &SetsOfKind
         requires { kind ≢ Kind.Leaf }
         ensures { result.now ≡ sets_of_kind kind self.now }
@@ -285,6 +300,7 @@ impl SetTables {
     }
 
     /// Notes a mention of a set of a kind. A leaf is in no set.
+    #[inline(always)]
     pub(crate) fn note(
         &mut self,
         alloc: Global,

@@ -82,6 +82,7 @@ impl<D: Drop> NumberTable<D> {
     }
 
     /// Gives a name at `i`, unless one is kept there.
+    #[inline(always)]
     pub(crate) fn name(
         &mut self,
         alloc: Global,

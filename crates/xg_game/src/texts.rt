@@ -77,7 +77,7 @@ impl Texts {
     {
         match text.plain() {
             Some(bytes) => self.push(bytes),
-            None => self.push_escaped(alloc, text),
+            None => self.push_escaped(alloc, &text.again()),
         }
     }
 

@@ -71,6 +71,8 @@ impl<'a, O: Sink> Page<'a, O> {
     }
 
     /// Hands what waits to the sink. After an error what is left of it waits.
+    #[cold]
+    #[inline(never)]
     pub(crate) fn turn(&mut self) -> Result<(), WriteFault>
         ensures same_reference { self.new.sink.ghost_name ≡ self.old.sink.ghost_name }
         ensures emptied { OnOk result ((self.new.start ≡ 0) × (self.new.end ≡ 0)) }

@@ -8,8 +8,8 @@ use crate::{Files, OpenFault};
 use std::alloc::{AllocError, Global};
 use thiserror::Error;
 
-/// How many bytes are asked for at once.
-const PIECE: usize = 65_536;
+/// How many bytes are asked for at once. A larger piece takes a small file longer to make than to read.
+const PIECE: usize = 16_384;
 
 /// Why a file wasn't read whole.
 #[derive(Clone, Copy, Debug, PartialEq, Eq, Error)]

@@ -5,7 +5,7 @@ use Rattle.def_file.specs.Game.{AreTogether}
 use Rattle.xg_record.specs.Entry.{entry_seen}
 use Rattle.def_file.proofs.TablesGoWithNodes.{together_with}
 use Rattle.xg_io.proofs.ResultCases.{without_err}
-use Rattle.xg_game.proofs.maker.GameMaker.push_entry.Goals as goal
+use Rattle.xg_game.proofs.maker.GameMaker.push_placed.Goals as goal
 
 pub invariant_of-self-else-is_err : goal.invariant_of-self-else-is_err
 invariant_of-self-else-is_err c unspent =
