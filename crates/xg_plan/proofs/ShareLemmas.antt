@@ -16,6 +16,11 @@ prefix-within ws zero = omega arith
 prefix-within [] (suc i) = omega arith
 prefix-within (w ∷ ws) (suc i) = omega (arith, prefix-within ws i)
 
+-- there are weights where they weigh something
+pub some_weigh : (ws : List ℕ) → 1 ≤ weight_sum ws → 1 ≤ length ws
+some_weigh [] some = absurd (omega arith)
+some_weigh (w ∷ ws) some = omega arith
+
 -- there is a size for each weight
 pub length-sizes : (ws : List ℤ) → length (map unsigned_abs ws) ≡ length ws
 length-sizes ws = length-map ws unsigned_abs

@@ -81,10 +81,11 @@ fn deal_by_play(n: u64, units: &[u32], out: &mut [u64])
     requires small { n < past_dealt }
     ensures { out.new ≡ shares n units.now }
 {
-    if out.len() == 1 {
-        out[0] = n;
-    } else if out.len() == 2 {
+    // Most sets have two actions, so it is asked for these first.
+    if out.len() == 2 {
         deal_to_two(n, units, out);
+    } else if out.len() < 2 {
+        out[0] = n;
     } else {
         deal_to_many(n, units, out);
     }

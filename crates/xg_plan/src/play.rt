@@ -1,5 +1,5 @@
 //! The play of a player, in the units of each set.
-ghost use Rattle.std.specs.Prelude.{◌≡◌, ◌<◌, ◌≤◌, length, replicate, slice_index, slice_set, IfOk};
+ghost use Rattle.std.specs.Prelude.{◌≡◌, ◌+◌, ◌<◌, ◌≤◌, length, replicate, slice_index, slice_set, IfOk};
 ghost use Rattle.def_plan.specs.Form.{player_sets, sequence_count};
 
 use def_tree::Player;
@@ -58,6 +58,17 @@ impl Play {
         ensures { self.new ≡ slice_set self.old sequence units }
     {
         self.units[sequence as usize] = units;
+    }
+
+    /// Gives a sequence these units, and the sequence behind it those of the next one.
+    pub fn set_two(&mut self, sequence: u32, units: u32, next: u32)
+        requires from_one { 1 ≤ sequence }
+        requires there { sequence + 1 < length self.old }
+        ensures { self.new ≡ slice_set (slice_set self.old sequence units) (sequence + 1) next }
+    {
+        let first = sequence as usize;
+        self.units[first] = units;
+        self.units[first + 1] = next;
     }
 
     /// Nothing runs: every play has a number for the empty sequence, and it is 0.

@@ -69,6 +69,25 @@ impl SeqForm {
         SeqForm::with_threads(alloc, one, two, leaves)
     }
 
+    /// The same with sets that aren't needed any more. They are given back before the leaves are threaded.
+    pub fn of(
+        alloc: Global,
+        tree: &Tree,
+        sets: Sets,
+        weights: &[i64],
+    ) -> Result<SeqForm, AllocError>
+        requires sets { sets ≡ tree_sets tree.now }
+        requires weights { length weights.now ≡ leaf_count (prefix tree.now) }
+        requires mass { sum (map unsigned_abs weights.now) ≤ most_mass }
+        ensures { IfOk result (λ form. form ≡ form_of tree.now weights.now) }
+    {
+        let leaves = leaves_of(alloc, tree, &sets, weights)?;
+        let one = table_of(alloc, &sets, Player::One)?;
+        let two = table_of(alloc, &sets, Player::Two)?;
+        drop(sets);
+        SeqForm::with_threads(alloc, one, two, leaves)
+    }
+
     // The form of these sets and leaves.
     fn with_threads(
         alloc: Global,

@@ -45,18 +45,9 @@ fn link_leaves(leaves: &[Leaf], player: Player, first: &mut [u32], next: &mut [u
     ensures { KeepsThreads player (length first.old) (map leaf_of leaves.now) first.new next.new }
 {
     for i in (0..leaves.len()).rev() {
-        let s = sequence_of(leaves[i], player) as usize;
+        let s = leaves[i].sequence(player) as usize;
         next[i] = first[s];
         first[s] = i as u32 + 1;
-    }
-}
-
-fn sequence_of(leaf: Leaf, player: Player) -> u32
-    ensures { result ≡ leaf_sequence player (leaf_of leaf) }
-{
-    match player {
-        Player::One => leaf.seq1,
-        Player::Two => leaf.seq2,
     }
 }
 

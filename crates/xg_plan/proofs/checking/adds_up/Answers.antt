@@ -1,4 +1,4 @@
-use Rattle.std.proofs.Common.{◌-◌, ◌∙◌, ap, arith, slice_index, sym, eqb-true, eq-eqb}
+use Rattle.std.proofs.Common.{◌-◌, ◌∙◌, ap, slice_index, sym, eqb-true, eq-eqb}
 use Rattle.def_plan.specs.Form.{PlacedSet, player_sets}
 use Rattle.xg_plan.proofs.CheckLemmas.{part_sum}
 use Rattle.xg_plan.proofs.PlaceLemmas.{is_placed_as}

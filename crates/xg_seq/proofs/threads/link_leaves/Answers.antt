@@ -16,9 +16,9 @@ loop-i-preserved c =
     let below : i < length leaves = omega arith in
     let count = length-map leaves leaf_of in
     let inside : i < length (map leaf_of leaves) = omega arith in
-    let is : c.sequence_of-s.result ≡ leaf_sequence c.args.player (get_or (map leaf_of leaves) i (leaf_of none)) =
-    c.sequence_of-s.ensures ∙ ap (leaf_sequence c.args.player) (sym (get_or-map leaf_of leaves i none (leaf_of none) below)) in
+    let is : c.sequence-s.result ≡ leaf_sequence c.args.player (get_or (map leaf_of leaves) i (leaf_of none)) =
+    c.sequence-s.ensures ∙ ap (leaf_sequence c.args.player) (sym (get_or-map leaf_of leaves i none (leaf_of none) below)) in
     let known = c.requires.there i none below in
-    linked_more i c.sequence_of-s.result c.args.player (map leaf_of leaves) (leaf_of none) inside is c.loop-i.first c.loop-i.next (omega arith)
-    (omega (arith, known, c.sequence_of-s.ensures))
+    linked_more i c.sequence-s.result c.args.player (map leaf_of leaves) (leaf_of none) inside is c.loop-i.first c.loop-i.next (omega arith)
+    (omega (arith, known, c.sequence-s.ensures))
     (subst (λ k. LinksLeavesFrom k c.args.player (map leaf_of leaves) c.loop-i.first c.loop-i.next) i_is c.loop-i.invariant)
