@@ -1,5 +1,5 @@
 -- Regrets and worths that are kept in 64 bits.
-use Rattle.std.proofs.Common.{◌≡◌, ℕ, ◌+◌, ◌^◌, ◌<◌, ◌≤◌, IfSome, List, Option, Some, length, map, ℤ, ◌+ℤ◌, unsigned_abs, FitsSigned, arith, sym, ap, subst}
+use Rattle.std.proofs.Common.{◌≡◌, ℕ, ◌+◌, ◌^◌, ◌<◌, ◌≤◌, List, length, map, ℤ, ◌+ℤ◌, unsigned_abs, FitsSigned, arith, ap}
 use Rattle.std.specs.Int.{w64, w128}
 use Rattle.std.proofs.lemmas.Int.{fits_signed_from_abs, ints}
 use Rattle.def_tree.specs.declared.Player.{Player}
@@ -50,16 +50,15 @@ module _ (player : Player) (rows worths : List ℤ) (sets : List InformationSet)
             order all_units sums_within small s,
       )
 
--- a number within 2 ^ 82 has room beside a regret that is within 2 ^ 126
-pub wide_fits : (regret v : ℤ) → unsigned_abs regret < 2 ^ 126 → unsigned_abs v ≤ 2 ^ 82 → FitsSigned w128 (regret +ℤ v)
-wide_fits regret v small low = fits_signed_from_abs w128 (regret +ℤ v) (omega (arith, grown_size regret v (2 ^ 126) (2 ^ 82) (omega (arith, small)) low))
+-- worths that are within 2 ^ 82 together: no larger numbers have room in 128 bits, also beside regrets within 2 ^ 126
+module _ (worths : List ℤ) (sets : List InformationSet)
+    (small : size_of_sums (amount_of (map (λ worth. worth) worths)) sets ≤ 2 ^ 82) where
+  pub numbers_fit_wide : (v : ℤ) → unsigned_abs v ≤ size_of_sums (amount_of (map (λ worth. worth) worths)) sets → FitsSigned w128 v
+  numbers_fit_wide v low = fits_signed_from_abs w128 v (omega (arith, low, small))
 
-pub number_fits_wide : (v : ℤ) → unsigned_abs v ≤ 2 ^ 82 → FitsSigned w128 v
-number_fits_wide v low = fits_signed_from_abs w128 v (omega (arith, low))
-
--- what is known where there is some
-pub if_some : {A : Type 0} (P : A → Type 0) (option : Option A) (a : A) → option ≡ Some a → IfSome option P → P a
-if_some P option a is known = subst (λ o. IfSome o P) is known
-
-pub some_if : {A : Type 0} (P : A → Type 0) (option : Option A) (a : A) → option ≡ Some a → P a → IfSome option P
-some_if P option a is known = subst (λ o. IfSome o P) (sym is) known
+  pub regrets_fit_wide : (regrets : List ℤ) → ((s : ℕ) → unsigned_abs (regret_of regrets s) < 2 ^ 126)
+      → (s : ℕ) (v : ℤ) → unsigned_abs v ≤ size_of_sums (amount_of (map (λ worth. worth) worths)) sets
+      → FitsSigned w128 (regret_of (map (λ regret. regret) regrets) s +ℤ v)
+  regrets_fit_wide regrets room s v low =
+      rw (same_amounts regrets) (fits_signed_from_abs w128 (regret_of regrets s +ℤ v)
+      (omega (arith, grown_size (regret_of regrets s) v (2 ^ 126) (2 ^ 82) (omega (arith, room s)) (omega (arith, low, small)))))

@@ -61,11 +61,12 @@ fn play_set<R: Worth>(place: SetPlace, regrets: &[R], play: &mut Play)
     ensures { PlaysSet (placed_of_row place) (set_play (map R.amount regrets.now) (placed_of_row place)) play.old
         play.new }
 {
+    // Most sets have two actions, so it is asked for these first.
     if place.actions == 2 {
         play_two(place, regrets, play);
         return;
     }
-    if place.actions == 1 {
+    if place.actions < 2 {
         play.set(place.first, UNITS);
         return;
     }
@@ -85,16 +86,16 @@ fn sum_of_parts<R: Worth>(place: SetPlace, regrets: &[R]) -> u128
 {
     let mut sum = 0u128;
     for i in 0..place.actions {
-        sum += part_of(regrets, place.first + i);
+        sum += part_of(regrets, (place.first + i) as usize);
     }
     sum
 }
 
-fn part_of<R: Worth>(regrets: &[R], sequence: u32) -> u128
+fn part_of<R: Worth>(regrets: &[R], sequence: usize) -> u128
     requires { sequence < length regrets.now }
     ensures { result ≡ positive_part (regret_of (map R.amount regrets.now) sequence) }
 {
-    let regret = worth_at(regrets, sequence as usize);
+    let regret = worth_at(regrets, sequence);
     if regret > 0 { regret as u128 } else { 0 }
 }
 
@@ -117,7 +118,7 @@ fn play_by_parts<R: Worth>(place: SetPlace, regrets: &[R], sum: u128, play: &mut
     let mut sum_so_far = 0u128;
     let mut given = 0u32;
     for i in 0..last {
-        sum_so_far += part_of(regrets, place.first + i);
+        sum_so_far += part_of(regrets, (place.first + i) as usize);
         let next = units_of(sum_so_far, sum, inverse);
         play.set(place.first + i, next - given);
         given = next;
@@ -156,11 +157,11 @@ fn play_two<R: Worth>(place: SetPlace, regrets: &[R], play: &mut Play)
     ensures { PlaysSet (placed_of_row place) (set_play (map R.amount regrets.now) (placed_of_row place)) play.old
         play.new }
 {
-    let a = part_of(regrets, place.first);
-    let b = part_of(regrets, place.first + 1);
+    let at = place.first as usize;
+    let a = part_of(regrets, at);
+    let b = part_of(regrets, at + 1);
     let first = first_of_two(a, b);
-    play.set(place.first, first);
-    play.set(place.first + 1, UNITS - first);
+    play.set_two(place.first, first, UNITS - first);
 }
 
 fn first_of_two(a: u128, b: u128) -> u32

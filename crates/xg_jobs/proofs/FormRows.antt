@@ -1,10 +1,10 @@
 -- The sums over the groups, and what they add to the rows of player two, are the rows of the form.
-use Rattle.std.proofs.Common.{◌≡◌, ℕ, ◌+◌, ◌-◌, ◌*◌, ◌^◌, ◌<◌, ◌≤◌, max, List, [], length, get_or, ℤ, pos, unsigned_abs, ◌+ℤ◌, ◌*ℤ◌, All, sym, ap, subst, ◌∙◌}
-use Rattle.std.proofs.Common.{arith}
-use Rattle.std.proofs.lemmas.List.{ext_get_or}
+use Rattle.std.proofs.Common.{◌≡◌, ℕ, ◌+◌, ◌-◌, ◌*◌, ◌^◌, ◌<◌, ◌≤◌, max, List, [], length, get_or, slice_index, map, ℤ, pos, unsigned_abs, ◌+ℤ◌, ◌*ℤ◌, All}
+use Rattle.std.proofs.Common.{sym, ap, subst, ◌∙◌, arith}
+use Rattle.std.proofs.lemmas.List.{ext_get_or, length-map}
 use Rattle.std.proofs.lemmas.List.FromFn.{get_or-map-range_with_len, length-map-range_with_len}
 use Rattle.std.proofs.Math.Nat.{mul-le-mul, mul-le-mul_right}
-use Rattle.def_sums.specs.Limits.{most_mass, most_root}
+use Rattle.def_sums.specs.Limits.{most_root, past_number}
 use Rattle.def_sums.proofs.RingLaws.{zero-+ℤ}
 use Rattle.def_sums.proofs.SumLaws.{sum_over-map}
 use Rattle.def_tree.specs.declared.Player.TheVariants.{One, Two}
@@ -14,11 +14,11 @@ use Rattle.def_plan.proofs.Rows.{player_rows_are_leaf_sums}
 use Rattle.xg_seq.specs.Leaves.{HasSequences}
 use Rattle.xg_jobs.specs.Entries.{KeepsGroups}
 use Rattle.xg_jobs.specs.Groups.{GroupLeaf, group_at, group_sum, groups_mass, greatest_of, parts_sum, weights_of}
-use Rattle.xg_jobs.specs.Grouping.{entries_with, entry_of, leaves_of_sequence, pair_weights, weights_in}
+use Rattle.xg_jobs.specs.Grouping.{GroupedWeights, entries_with, entry_of, leaves_of_sequence, pair_weights, weights_in}
 use Rattle.xg_jobs.specs.Writing.{CanWrite}
 use Rattle.xg_jobs.proofs.Building.{entries_within}
 use Rattle.xg_jobs.proofs.Columns.{parts_are_leaf_sum}
-use Rattle.xg_jobs.proofs.Greatest.{both_within}
+use Rattle.xg_jobs.proofs.Greatest.{at_most_greatest, both_within, greatest_within}
 use Rattle.xg_jobs.proofs.PairWeights.{same_sum, weights_count}
 
 -- as many groups as player one has sequences
@@ -42,15 +42,16 @@ group_weights form starts entries others s is low =
     (omega arith)
 
 -- groups that a table keeps can be written, where there is room
-pub can_write : (bound : ℕ) (starts there : List ℕ) (entries leaves : List GroupLeaf) (form : SequenceForm)
-    (x y : List ℕ) (others mass : ℕ)
-    → there ≡ starts → leaves ≡ entries
-    → weights_in starts entries others ≡ pair_weights form One → KeepsGroups starts entries others mass
-    → All (HasSequences form) form.leaves → mass * max (greatest_of x) (greatest_of y) < bound
+pub can_write : {bound : ℕ} {starts there : List ℕ} {entries leaves : List GroupLeaf} {form : SequenceForm} {x y : List ℕ}
+    {others mass : ℕ} {told : GroupedWeights} → KeepsGroups starts entries others mass
+    → record { weights = weights_in starts entries others; mass = mass } ≡ told → told.weights ≡ pair_weights form One
+    → All (HasSequences form) form.leaves → there ≡ starts → leaves ≡ entries
+    → mass * max (greatest_of x) (greatest_of y) < bound
     → CanWrite bound there leaves form x y
-can_write bound starts there entries leaves form x y others mass starts_are entries_are is kept known room =
+can_write {bound} {starts} {there} {entries} {leaves} {form} {x} {y} {others} {mass} {told} kept view told_is known starts_are entries_are room =
     subst (λ a. CanWrite bound a leaves form x y) (sym starts_are) (
     subst (λ b. CanWrite bound starts b form x y) (sym entries_are) (
+    let is : weights_in starts entries others ≡ pair_weights form One = ap (λ (g : GroupedWeights). g.weights) view ∙ told_is in
     let others_is : others ≡ sequence_count form.sets_two =
     sym (weights_count others (group_at starts entries 0)) ∙ ap length (group_weights form starts entries others 0 is (omega arith))
     ∙ weights_count (sequence_count form.sets_two) (entries_with One 0 form.leaves) in
@@ -64,13 +65,13 @@ can_write bound starts there entries leaves form x y others mass starts_are entr
     ))
 
 -- there always is in 128 bits
-pub wide_room : (starts : List ℕ) (entries : List GroupLeaf) (x y : List ℕ) (others mass : ℕ)
+pub wide_room : {starts : List ℕ} {entries : List GroupLeaf} {others mass : ℕ} (x y : List ℕ)
     → KeepsGroups starts entries others mass → All (λ n. n ≤ most_root) x → All (λ n. n ≤ most_root) y
     → mass * max (greatest_of x) (greatest_of y) < 2 ^ 127
-wide_room starts entries x y others mass kept small_one small_two =
+wide_room x y kept small_one small_two =
     let most : ℕ = max (greatest_of x) (greatest_of y) in
     let low : most ≤ most_root = both_within x y most_root small_one small_two in
-    let both : mass * most ≤ most_mass * most_root = mul-le-mul kept.light low in
+    let both = mul-le-mul kept.light low in
     omega (arith, both)
 
 module _ (bound : ℕ) (starts : List ℕ) (entries : List GroupLeaf) (form : SequenceForm) (x y : List ℕ)
@@ -118,6 +119,40 @@ module _ (bound : ℕ) (starts : List ℕ) (entries : List GroupLeaf) (form : Se
       (λ s below. group_weights form starts entries n s can.weights (omega arith))
       (λ k d below. (can.known k d below).one) (omega arith)
       ∙ sym (rows.each_row b (omega arith)))
+
+-- what one player's pass over the groups needs of them, and that a row of 0 has room
+module _ {X : Type 0} (leaf : X → GroupLeaf) {bound : ℕ} {starts : List ℕ} (items : List X) {form : SequenceForm} {x : List ℕ}
+    (can : CanWrite bound starts (map leaf items) form x x) {n : ℕ} (own : n ≡ sequence_count form.sets_one) where
+  every_start : n + 1 ≡ length starts
+  every_start = omega (arith, own, all_groups bound starts (map leaf items) form x x can)
+
+  pub can_pass : {Room : Type 0} {others : ℕ} → others ≡ sequence_count form.sets_two → All (λ k. k ≤ most_root) x → Room
+      → ((s : ℕ) → s < n → slice_index starts s ≤ slice_index starts (s + 1))
+      × (((s : ℕ) → s < n → slice_index starts (s + 1) ≤ length items)
+      × ((n + 1 ≡ length starts)
+      × (((s : ℕ) → s < n → All (λ e. e.other < others) (group_at starts (map leaf items) s))
+      × (((b : ℕ) → slice_index x b ≤ greatest_of x) × ((greatest_of x < past_number) × Room)))))
+  can_pass others_are small room =
+      let low_most : greatest_of x ≤ most_root = greatest_within x most_root small in (
+        λ s low. can.kept.ordered s (omega (arith, every_start)),
+        (
+          λ s low. omega (arith, can.kept.inside (s + 1) (omega (arith, every_start)), length-map items leaf),
+          (
+            every_start,
+            (
+              λ s low.
+                  subst (λ m. All (λ e. e.other < m) (group_at starts (map leaf items) s)) (sym others_are) (can.kept.within s (omega (arith, every_start))),
+              (at_most_greatest x, (omega (arith, low_most), room)),
+            ),
+          ),
+        ),
+      )
+
+  pub pass_room : (row : ℤ) → row ≡ pos 0
+      → unsigned_abs row + groups_mass starts (map leaf items) n * greatest_of x < bound
+  pass_room row zero =
+      let same : max (greatest_of x) (greatest_of x) ≡ greatest_of x = grind arith in
+      omega (arith, ap (λ k. groups_mass starts (map leaf items) n * k) same, room_for bound starts (map leaf items) form x x can row n zero every_start)
 
 -- from a row of 0 on
 pub from_zero : (after before part : ℤ) → before ≡ pos 0 → after ≡ before +ℤ part → after ≡ part

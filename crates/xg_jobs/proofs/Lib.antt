@@ -3,6 +3,8 @@ mod RangeLemmas
 mod GroupSums
 mod PairWeights
 mod Parts
+mod PassOverGroup
+mod PassOverLeaves
 mod Columns
 mod Counting
 mod Placing

@@ -28,6 +28,12 @@ pub trait RowMaker {
     fn makes_packets(&self) -> bool
         ensures { result ≡ by_packets self.now };
 
+    /// Whether a thread that is started now is expected to run at once, and each player has so much work that this pays.
+    /// What is made is the same with threads and without.
+    fn has_idle_threads(&self) -> bool {
+        false
+    }
+
     /// The leaf sum of each sequence of the input's form against the other player's numbers, in player one's payoff.
     fn rows<Rt: Threads + Wait + Sync>(
         &self,

@@ -12,9 +12,9 @@ pub(crate) struct Pace {
 const LONGEST_PAUSE: u32 = 255;
 
 impl Pace {
-    /// Threads are started at once.
+    /// Threads are started at once, of which nothing is known yet.
     pub(crate) fn new() -> Pace {
-        Pace { pause: 0, left: 0 }
+        Pace { pause: 1, left: 0 }
     }
 
     /// Whether threads are to be started this time.
@@ -26,10 +26,15 @@ impl Pace {
         false
     }
 
+    /// Whether threads were punctual when they were last started, and are started each time.
+    pub(crate) fn is_unbroken(&self) -> bool {
+        self.pause == 0
+    }
+
     /// Sets the pause behind a start, by whether all threads had ended when they were looked for.
     pub(crate) fn note(&mut self, punctual: bool) {
         self.pause = if punctual {
-            self.pause / 16
+            self.pause / 2
         } else {
             self.pause.min(LONGEST_PAUSE / 4) * 4 + 3
         };

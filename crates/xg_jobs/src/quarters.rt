@@ -72,7 +72,7 @@ pub(crate) fn add_groups_in_four<Rt: Threads + Sync, E: GroupEntry + Sync, R: Ro
 }
 
 // Adds the first groups into rows and the others into spare ones, each in two threads. This one looks for the others'
-// ends about as often as there are entries.
+// ends twice as often as there are entries, so that few are taken for late which win time.
 fn add_quarters<Rt: Threads + Sync, E: GroupEntry + Sync, R: Row + Send>(
     rt: &Rt,
     entries: &[E],
@@ -104,7 +104,7 @@ fn add_quarters<Rt: Threads + Sync, E: GroupEntry + Sync, R: Row + Send>(
         (map R.amount later_own.new) (replicate (length later_other.old) (pos 0)) (map R.amount later_other.new) }
 {
     let roll = Roll::new(4);
-    let looks = entries.len();
+    let looks = entries.len().saturating_mul(2);
     let mut first = || -> bool
         requires { IsSync Rt.row × IsSync E.row × IsSend R.row
             × CanAddGroups R.limit starts.now (map E.leaf entries.now) one.now two.now (length own.now)

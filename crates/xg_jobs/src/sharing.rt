@@ -50,6 +50,7 @@ pub(crate) fn write_small_rows_by_threads<Rt: Threads + Sync, E: GroupEntry + Sy
         third,
         fourth,
         pace,
+        ..
     } = spare;
     two.fill(0);
     let punctual = sum_rows_in_four(rt, starts, entries, input, one, two, second, third, fourth);

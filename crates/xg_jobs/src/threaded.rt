@@ -49,6 +49,13 @@ impl RowMaker for ThreadedRows {
         false
     }
 
+    fn has_idle_threads(&self) -> bool {
+        match self.spare.try_borrow() {
+            Ok(spare) => spare.for_players && spare.pace.is_unbroken(),
+            Err(_) => false,
+        }
+    }
+
     fn rows<Rt: Threads + Wait + Sync>(
         &self,
         rt: &Rt,

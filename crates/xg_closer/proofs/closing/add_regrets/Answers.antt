@@ -1,4 +1,4 @@
-use Rattle.std.proofs.Common.{◌≡◌, ◌≢◌, ℕ, ◌+◌, List, ℤ, ◌+ℤ◌, ◌-ℤ◌, FitsSigned, map, subst, to_z, of_z, sym, arith}
+use Rattle.std.proofs.Common.{◌≢◌, ℕ, ◌+◌, List, ℤ, ◌+ℤ◌, ◌-ℤ◌, FitsSigned, map, subst, to_z, of_z, sym, arith}
 use Rattle.def_plan.specs.FormRows.{amount_of}
 use mir.Syntax.{w128}
 use Rattle.std.proofs.lemmas.Int.{to_z-of_z}
@@ -8,7 +8,7 @@ use Rattle.xg_closer.proofs.closing.add_regrets.Goals as goal
 pub add_regret-requires-then-place-eq2-clause-room : goal.add_regret-requires-then-place-eq2-clause-room
 add_regret-requires-then-place-eq2-clause-room g c =
     let next : ℕ = c.args.place.first + 1 in
-    let value_is : to_z w128 (of_z w128 c.args.value) ≡ c.args.value = to_z-of_z w128 c.args.value c.ranges.value in
+    let value_is = to_z-of_z w128 c.args.value c.ranges.value in
     let more : ℤ = amount_of (map g.W.Worth.amount c.args.worths.now) next -ℤ c.args.value in
     let apart : next ≢ c.args.place.first = omega arith in
     rw value_is (subst (λ r. FitsSigned g.R.Worth.width (r +ℤ more)) (sym (c.add_regret.ensures.others next apart))
@@ -17,7 +17,7 @@ add_regret-requires-then-place-eq2-clause-room g c =
 pub add_regret-requires-in-loop-i-clause-room : goal.add_regret-requires-in-loop-i-clause-room
 add_regret-requires-in-loop-i-clause-room g c =
     let next : ℕ = c.args.place.first + c.loop-i.i in
-    let value_is : to_z w128 (of_z w128 c.args.value) ≡ c.args.value = to_z-of_z w128 c.args.value c.ranges.value in
+    let value_is = to_z-of_z w128 c.args.value c.ranges.value in
     let more : ℤ = amount_of (map g.W.Worth.amount c.args.worths.now) next -ℤ c.args.value in
     rw value_is (subst (λ r. FitsSigned g.R.Worth.width (r +ℤ more)) (sym (c.loop-i.invariant.later next (omega arith)))
     (c.requires.room next (omega arith) (omega arith)))
@@ -29,7 +29,7 @@ returns-then-place-eq2 g c =
     let before : List ℤ = map g.R.Worth.amount c.args.regrets.now in
     let middle : List ℤ = map g.R.Worth.amount c.add_regret.new.regrets in
     let after : List ℤ = map g.R.Worth.amount c.add_regret-then-place-eq2.new.regrets in
-    let value_is : to_z w128 (of_z w128 c.args.value) ≡ c.args.value = to_z-of_z w128 c.args.value c.ranges.value in
+    let value_is = to_z-of_z w128 c.args.value c.ranges.value in
     let here = rw value_is at c.add_regret.ensures.here in
     let here_too = rw value_is at c.add_regret-then-place-eq2.ensures.here in
     let one : GrewFirst first 1 worths c.args.value before middle =
@@ -57,7 +57,7 @@ loop-i-preserved g c =
 
 pub returns : goal.returns
 returns g c =
-    let value_is : to_z w128 (of_z w128 c.args.value) ≡ c.args.value = to_z-of_z w128 c.args.value c.ranges.value in
+    let value_is = to_z-of_z w128 c.args.value c.ranges.value in
     let all = rw value_is at c.loop-i.invariant in
     record {
       count = omega (arith, c.loop-i.auto.regrets);

@@ -1,8 +1,6 @@
-use Rattle.std.proofs.Common.{◌≡◌, ◌+ℤ◌, FitsSigned, map, subst, to_z, of_z, arith, ap, rules, sym, ◌∙◌}
+use Rattle.std.proofs.Common.{◌≡◌, ◌+ℤ◌, FitsSigned, map, subst, arith, ap, rules, sym, ◌∙◌}
 use Rattle.def_plan.specs.FormRows.{amount_of}
-use mir.Syntax.{w128}
 use Rattle.std.specs.Int.{int_wrap}
-use Rattle.std.proofs.lemmas.Int.{to_z-of_z}
 use Rattle.def_plan.specs.Form.{PlacedSet}
 use Rattle.def_round.specs.Play.{regret_of}
 use Rattle.xg_closer.specs.Closing.{value_by}
@@ -14,9 +12,7 @@ use Rattle.xg_closer.proofs.closing.close_set.Goals as goal
 pub returns-then-place-eq1-clause-worth_before : goal.returns-then-place-eq1-clause-worth_before
 returns-then-place-eq1-clause-worth_before g c =
     let h : PlacedSet = placed_of_row c.args.place in
-    let fits : FitsSigned w128 c.worth_at-worth.result = search rules in
-    let worth_is : to_z w128 (of_z w128 c.worth_at-worth.result) ≡ value_by c.args.play.now (map g.W.Worth.amount c.args.worths.now) h =
-    to_z-of_z w128 c.worth_at-worth.result fits ∙ c.worth_at-worth.ensures
+    let worth_is = read_back c.worth_at-worth.result _ (search rules) c.worth_at-worth.ensures
     ∙ sym (only_value c.args.play.now (map g.W.Worth.amount c.args.worths.now) h (omega arith) c.requires.all_units) in
     c.add_worth.ensures.here ∙ ap (λ v. int_wrap g.W.Worth.width (amount_of (map g.W.Worth.amount c.args.worths.now) h.before +ℤ v)) worth_is
 
@@ -32,26 +28,20 @@ returns-then-place-eq1-clause-of_set g c = λ s from to.
 pub add_worth-requires-clause-fits : goal.add_worth-requires-clause-fits
 add_worth-requires-clause-fits g c =
     let h : PlacedSet = placed_of_row c.args.place in
-    let fits : FitsSigned w128 c.worth_at-worth.result = search rules in
-    let worth_is : to_z w128 (of_z w128 c.worth_at-worth.result) ≡ value_by c.args.play.now (map g.W.Worth.amount c.args.worths.now) h =
-    to_z-of_z w128 c.worth_at-worth.result fits ∙ c.worth_at-worth.ensures
+    let worth_is = read_back c.worth_at-worth.result _ (search rules) c.worth_at-worth.ensures
     ∙ sym (only_value c.args.play.now (map g.W.Worth.amount c.args.worths.now) h (omega arith) c.requires.all_units) in
     subst (FitsSigned g.W.Worth.width) (sym worth_is) c.requires.fits
 
-pub add_regrets-requires-clause-growth : goal.add_regrets-requires-clause-growth
-add_regrets-requires-clause-growth g c = λ s from to.
+pub add_regrets-requires : goal.add_regrets-requires
+add_regrets-requires g c =
     let value_is = read_back c.value_of_set-value.result _ (search rules) c.value_of_set-value.ensures in
-    rw value_is (c.requires.growth s from to)
-
-pub add_regrets-requires-clause-growth_fits : goal.add_regrets-requires-clause-growth_fits
-add_regrets-requires-clause-growth_fits g c = λ s from to.
-    let value_is = read_back c.value_of_set-value.result _ (search rules) c.value_of_set-value.ensures in
-    rw value_is (c.requires.growth_fits s from to)
-
-pub add_regrets-requires-clause-room : goal.add_regrets-requires-clause-room
-add_regrets-requires-clause-room g c = λ s from to.
-    let value_is = read_back c.value_of_set-value.result _ (search rules) c.value_of_set-value.ensures in
-    rw value_is (c.requires.room s from to)
+    record {
+      inside = c.requires.inside;
+      as_many = c.requires.as_regrets;
+      growth = rw value_is c.requires.growth;
+      growth_fits = rw value_is c.requires.growth_fits;
+      room = rw value_is c.requires.room;
+    }
 
 pub returns-clause-of_set : goal.returns-clause-of_set
 returns-clause-of_set g c = λ s from to.

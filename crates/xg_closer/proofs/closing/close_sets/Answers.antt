@@ -30,119 +30,48 @@ loop-set-init g c =
           (omega (arith, last, regrets_count sums c.args.play.now sets (map g.R.Worth.amount c.args.regrets.now) (c.facts.ensures.order c.args.player)))),
     )
 
-pub close_set-requires-clause-from_one : goal.close_set-requires-clause-from_one
-close_set-requires-clause-from_one g c =
-    let at = row_at (player_sets c.args.form.now c.args.player) c.places-places.result.now (c.loop-set.set - 1) c.place_at-place.result
-    (c.facts.ensures.order c.args.player) (omega arith) c.places-places.ensures c.place_at-place.ensures in
-    omega (arith, at.first)
-
-pub close_set-requires-clause-inside : goal.close_set-requires-clause-inside
-close_set-requires-clause-inside g c =
-    let at = row_at (player_sets c.args.form.now c.args.player) c.places-places.result.now (c.loop-set.set - 1) c.place_at-place.result
-    (c.facts.ensures.order c.args.player) (omega arith) c.places-places.ensures c.place_at-place.ensures in
-    omega (arith, at.inside, c.loop-set.invariant.0.count, length-map c.loop-set.worths g.W.Worth.amount)
-
-pub close_set-requires-clause-earlier : goal.close_set-requires-clause-earlier
-close_set-requires-clause-earlier g c =
-    let at = row_at (player_sets c.args.form.now c.args.player) c.places-places.result.now (c.loop-set.set - 1) c.place_at-place.result
-    (c.facts.ensures.order c.args.player) (omega arith) c.places-places.ensures c.place_at-place.ensures in
-    at.earlier
-
-pub close_set-requires-clause-as_play : goal.close_set-requires-clause-as_play
-close_set-requires-clause-as_play g c =
-    omega (arith, c.loop-set.invariant.0.count, length-map c.loop-set.worths g.W.Worth.amount, c.requires.as_play)
-
-pub close_set-requires-clause-limit : goal.close_set-requires-clause-limit
-close_set-requires-clause-limit g c =
-    omega (arith, c.loop-set.invariant.0.count, length-map c.loop-set.worths g.W.Worth.amount, c.facts.ensures.limit c.args.player)
-
-pub close_set-requires-clause-as_regrets : goal.close_set-requires-clause-as_regrets
-close_set-requires-clause-as_regrets g c =
-    omega (arith, c.loop-set.invariant.0.count, length-map c.loop-set.worths g.W.Worth.amount, c.loop-set.invariant.1, c.requires.as_regrets)
-
-pub close_set-requires-clause-all_units : goal.close_set-requires-clause-all_units
-close_set-requires-clause-all_units g c =
+pub close_set-requires : goal.close_set-requires
+close_set-requires g c =
+    let sets : List InformationSet = player_sets c.args.form.now c.args.player in
     let h : PlacedSet = placed_of_row c.place_at-place.result in
-    let at = row_at (player_sets c.args.form.now c.args.player) c.places-places.result.now (c.loop-set.set - 1) c.place_at-place.result
-    (c.facts.ensures.order c.args.player) (omega arith) c.places-places.ensures c.place_at-place.ensures in
-    units_at c.args.play.now (player_sets c.args.form.now c.args.player) (c.loop-set.set - 1) h at c.requires.all_units
-
-pub close_set-requires-clause-products : goal.close_set-requires-clause-products
-close_set-requires-clause-products g c =
-    let at = row_at (player_sets c.args.form.now c.args.player) c.places-places.result.now (c.loop-set.set - 1) c.place_at-place.result
+    let at = row_at sets c.places-places.result.now (c.loop-set.set - 1) c.place_at-place.result
     (c.facts.ensures.order c.args.player) (omega arith) c.places-places.ensures c.place_at-place.ensures in
     let worths : List ℤ = map g.W.Worth.amount c.loop-set.worths in
-    let regrets : List ℤ = map g.R.Worth.amount c.args.regrets.now in
-    let step = step_before g.W.Worth.width (amount_of (map g.W.Worth.amount c.args.worths.now)) c.args.play.now
-    (player_sets c.args.form.now c.args.player) regrets worths c.loop-set.set (c.loop-set.set - 1) (placed_of_row c.place_at-place.result)
+    let step = step_before g.W.Worth.width (amount_of (map g.W.Worth.amount c.args.worths.now)) c.args.play.now sets
+    (map g.R.Worth.amount c.args.regrets.now) worths c.loop-set.set (c.loop-set.set - 1) h
     (omega arith) (c.facts.ensures.order c.args.player) c.requires.all_units c.requires.small c.requires.fits at c.loop-set.invariant.0 in
-    step.products
-
-pub close_set-requires-clause-fits : goal.close_set-requires-clause-fits
-close_set-requires-clause-fits g c =
-    let at = row_at (player_sets c.args.form.now c.args.player) c.places-places.result.now (c.loop-set.set - 1) c.place_at-place.result
-    (c.facts.ensures.order c.args.player) (omega arith) c.places-places.ensures c.place_at-place.ensures in
-    let worths : List ℤ = map g.W.Worth.amount c.loop-set.worths in
-    let regrets : List ℤ = map g.R.Worth.amount c.args.regrets.now in
-    let step = step_before g.W.Worth.width (amount_of (map g.W.Worth.amount c.args.worths.now)) c.args.play.now
-    (player_sets c.args.form.now c.args.player) regrets worths c.loop-set.set (c.loop-set.set - 1) (placed_of_row c.place_at-place.result)
-    (omega arith) (c.facts.ensures.order c.args.player) c.requires.all_units c.requires.small c.requires.fits at c.loop-set.invariant.0 in
-    step.fits
-
-pub close_set-requires-clause-growth : goal.close_set-requires-clause-growth
-close_set-requires-clause-growth g c =
-    let at = row_at (player_sets c.args.form.now c.args.player) c.places-places.result.now (c.loop-set.set - 1) c.place_at-place.result
-    (c.facts.ensures.order c.args.player) (omega arith) c.places-places.ensures c.place_at-place.ensures in
-    let worths : List ℤ = map g.W.Worth.amount c.loop-set.worths in
-    let regrets : List ℤ = map g.R.Worth.amount c.args.regrets.now in
-    let step = step_before g.W.Worth.width (amount_of (map g.W.Worth.amount c.args.worths.now)) c.args.play.now
-    (player_sets c.args.form.now c.args.player) regrets worths c.loop-set.set (c.loop-set.set - 1) (placed_of_row c.place_at-place.result)
-    (omega arith) (c.facts.ensures.order c.args.player) c.requires.all_units c.requires.small c.requires.fits at c.loop-set.invariant.0 in
-    step.growth
-
-pub close_set-requires-clause-growth_fits : goal.close_set-requires-clause-growth_fits
-close_set-requires-clause-growth_fits g c =
-    let h : PlacedSet = placed_of_row c.place_at-place.result in
-    let at = row_at (player_sets c.args.form.now c.args.player) c.places-places.result.now (c.loop-set.set - 1) c.place_at-place.result
-    (c.facts.ensures.order c.args.player) (omega arith) c.places-places.ensures c.place_at-place.ensures in
-    let worths : List ℤ = map g.W.Worth.amount c.loop-set.worths in
-    let regrets : List ℤ = map g.R.Worth.amount c.args.regrets.now in
-    let step = step_before g.W.Worth.width (amount_of (map g.W.Worth.amount c.args.worths.now)) c.args.play.now
-    (player_sets c.args.form.now c.args.player) regrets worths c.loop-set.set (c.loop-set.set - 1) (placed_of_row c.place_at-place.result)
-    (omega arith) (c.facts.ensures.order c.args.player) c.requires.all_units c.requires.small c.requires.fits at c.loop-set.invariant.0 in
-    λ s from to. c.requires.growth (amount_of worths s -ℤ set_value c.args.play.now (amount_of worths) h) (step.grows s from to)
-
-pub close_set-requires-clause-room : goal.close_set-requires-clause-room
-close_set-requires-clause-room g c =
-    let h : PlacedSet = placed_of_row c.place_at-place.result in
     let behind : c.loop-set.set ≡ c.loop-set.set - 1 + 1 = omega arith in
-    let at = row_at (player_sets c.args.form.now c.args.player) c.places-places.result.now (c.loop-set.set - 1) c.place_at-place.result
-    (c.facts.ensures.order c.args.player) (omega arith) c.places-places.ensures c.place_at-place.ensures in
-    let worths : List ℤ = map g.W.Worth.amount c.loop-set.worths in
-    let regrets : List ℤ = map g.R.Worth.amount c.args.regrets.now in
-    let step = step_before g.W.Worth.width (amount_of (map g.W.Worth.amount c.args.worths.now)) c.args.play.now
-    (player_sets c.args.form.now c.args.player) regrets worths c.loop-set.set (c.loop-set.set - 1) (placed_of_row c.place_at-place.result)
-    (omega arith) (c.facts.ensures.order c.args.player) c.requires.all_units c.requires.small c.requires.fits at c.loop-set.invariant.0 in
-    let starts : start_of (player_sets c.args.form.now c.args.player) c.loop-set.set ≡ h.first + h.actions =
-    ap (start_of (player_sets c.args.form.now c.args.player)) behind ∙ at.next in
-    λ s from to.
-    let more = amount_of worths s -ℤ set_value c.args.play.now (amount_of worths) h in
-    subst (λ r. FitsSigned g.R.Worth.width (r +ℤ more)) (sym (c.loop-set.invariant.2 s (omega (arith, starts))))
-    (c.requires.room s more (step.grows s from to))
+    let starts : start_of sets c.loop-set.set ≡ h.first + h.actions = ap (start_of sets) behind ∙ at.next in
+    let count : length c.loop-set.worths ≡ sequence_count sets = sym (length-map c.loop-set.worths g.W.Worth.amount) ∙ c.loop-set.invariant.0.count in
+    let grown : ℕ → ℤ = λ s. amount_of worths s -ℤ set_value c.args.play.now (amount_of worths) h in
+    record {
+      from_one = omega (arith, at.first);
+      inside = omega (arith, at.inside, count);
+      earlier = at.earlier;
+      as_play = c.requires.as_play ∙ sym count;
+      limit = omega (arith, count, c.facts.ensures.limit c.args.player);
+      as_regrets = c.loop-set.invariant.1 ∙ c.requires.as_regrets ∙ sym count;
+      all_units = units_at c.args.play.now sets (c.loop-set.set - 1) h at c.requires.all_units;
+      products = step.products;
+      fits = step.fits;
+      growth = step.growth;
+      growth_fits = λ s from to. c.requires.growth (grown s) (step.grows s from to);
+      room = λ s from to. subst (λ r. FitsSigned g.R.Worth.width (r +ℤ grown s)) (sym (c.loop-set.invariant.2 s (omega (arith, starts))))
+          (c.requires.room s (grown s) (step.grows s from to));
+    }
 
 pub loop-set-preserved : goal.loop-set-preserved
 loop-set-preserved g c =
+    let sets : List InformationSet = player_sets c.args.form.now c.args.player in
     let h : PlacedSet = placed_of_row c.place_at-place.result in
-    let behind : c.loop-set.set ≡ c.loop-set.set - 1 + 1 = omega arith in
-    let at = row_at (player_sets c.args.form.now c.args.player) c.places-places.result.now (c.loop-set.set - 1) c.place_at-place.result
+    let at = row_at sets c.places-places.result.now (c.loop-set.set - 1) c.place_at-place.result
     (c.facts.ensures.order c.args.player) (omega arith) c.places-places.ensures c.place_at-place.ensures in
     let worths : List ℤ = map g.W.Worth.amount c.loop-set.worths in
-    let regrets : List ℤ = map g.R.Worth.amount c.args.regrets.now in
-    let step = step_before g.W.Worth.width (amount_of (map g.W.Worth.amount c.args.worths.now)) c.args.play.now
-    (player_sets c.args.form.now c.args.player) regrets worths c.loop-set.set (c.loop-set.set - 1) (placed_of_row c.place_at-place.result)
+    let step = step_before g.W.Worth.width (amount_of (map g.W.Worth.amount c.args.worths.now)) c.args.play.now sets
+    (map g.R.Worth.amount c.args.regrets.now) worths c.loop-set.set (c.loop-set.set - 1) h
     (omega arith) (c.facts.ensures.order c.args.player) c.requires.all_units c.requires.small c.requires.fits at c.loop-set.invariant.0 in
-    let starts : start_of (player_sets c.args.form.now c.args.player) c.loop-set.set ≡ h.first + h.actions =
-    ap (start_of (player_sets c.args.form.now c.args.player)) behind ∙ at.next in (
+    let behind : c.loop-set.set ≡ c.loop-set.set - 1 + 1 = omega arith in
+    let starts : start_of sets c.loop-set.set ≡ h.first + h.actions = ap (start_of sets) behind ∙ at.next in (
       record {
         count =
             length-map c.close_set.new.worths g.W.Worth.amount ∙ c.close_set.ensures.worths_count ∙ sym (length-map c.loop-set.worths g.W.Worth.amount)

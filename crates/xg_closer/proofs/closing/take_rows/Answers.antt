@@ -1,30 +1,24 @@
-use Rattle.std.proofs.Common.{◌≡◌, ℕ, ◌<◌, List, ℤ, pos, unsigned_abs, length, length-set, map, FitsSigned, to_z, of_z, arith, ap, rules, sym, ◌∙◌, ⊎_elim}
-use Rattle.def_plan.specs.FormRows.{amount_of}
+use Rattle.std.proofs.Common.{◌≡◌, ℕ, ◌<◌, List, ℤ, pos, unsigned_abs, length, length-set, map, to_z, of_z, arith, ap, rules, sym, ◌∙◌, ⊎_elim}
 use Rattle.std.specs.Int.{w128}
 use Rattle.std.proofs.lemmas.Bool.{cases_eq, cases_lt}
-use Rattle.std.proofs.lemmas.Int.{to_z-of_z}
 use Rattle.std.proofs.lemmas.List.{get_or-set_other, get_or-set_same, get_or_past, length-map}
 use Rattle.def_round.specs.Round.{utility}
+use Rattle.xg_closer.proofs.Growing.{read_back}
 use Rattle.xg_closer.proofs.RowSums.{own_amount_beyond, row_within}
 use Rattle.xg_closer.proofs.closing.take_rows.Goals as goal
 
 pub own_wide_row-requires : goal.own_wide_row-requires
 own_wide_row-requires g c =
     let rows : List ℤ = map g.A.Worth.amount c.args.rows.now in
-    let fits : FitsSigned w128 c.worth_at.result = search rules in
-    let row_is : to_z w128 (of_z w128 c.worth_at.result) ≡ amount_of rows c.loop-i.i = to_z-of_z w128 c.worth_at.result fits ∙ c.worth_at.ensures in
+    let row_is = read_back c.worth_at.result _ (search rules) c.worth_at.ensures in
     omega (arith, ap unsigned_abs row_is, row_within rows c.loop-i.i, c.requires.small)
 
 pub loop-i-preserved : goal.loop-i-preserved
 loop-i-preserved g c =
-    let rows : List ℤ = map g.A.Worth.amount c.args.rows.now in
     let i : ℕ = c.loop-i.i in
-    let fits : FitsSigned w128 c.worth_at.result = search rules in
-    let row_is : to_z w128 (of_z w128 c.worth_at.result) ≡ amount_of rows i = to_z-of_z w128 c.worth_at.result fits ∙ c.worth_at.ensures in
-    let fits_own : FitsSigned w128 c.own_wide_row.result = search rules in
+    let row_is = read_back c.worth_at.result _ (search rules) c.worth_at.ensures in
     let own : ℤ = to_z w128 (of_z w128 c.own_wide_row.result) in
-    let own_is : own ≡ utility c.args.player (amount_of rows i) = to_z-of_z w128 c.own_wide_row.result fits_own ∙ c.own_wide_row.ensures
-    ∙ ap (utility c.args.player) row_is in
+    let own_is = read_back c.own_wide_row.result _ (search rules) c.own_wide_row.ensures ∙ ap (utility c.args.player) row_is in
     let inside : i < length c.loop-i.worths = omega (arith, c.loop-i.invariant.0, c.requires.as_many) in (
       length-set c.loop-i.worths i own ∙ c.loop-i.invariant.0,
       λ s below.

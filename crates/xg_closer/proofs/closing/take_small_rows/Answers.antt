@@ -1,20 +1,19 @@
-use Rattle.std.proofs.Common.{◌≡◌, ℕ, ◌+◌, ◌<◌, ◌≤◌, List, [], ◌∷◌, length, length-set, get_or, map, take, drop, ℤ, pos, unsigned_abs, FitsSigned, to_z, of_z}
+use Rattle.std.proofs.Common.{◌≡◌, ℕ, ◌+◌, ◌<◌, ◌≤◌, List, [], ◌∷◌, length, length-set, get_or, map, take, drop, ℤ, pos, unsigned_abs, to_z, of_z}
 use Rattle.std.proofs.Common.{arith, ap, refl, rules, sym, ◌∙◌, ⊎_elim}
-use Rattle.std.specs.Int.{w64, w128}
+use Rattle.std.specs.Int.{w64}
 use Rattle.std.proofs.lemmas.Bool.{cases_eq, cases_lt}
 use Rattle.std.proofs.lemmas.Int.{to_z-of_z}
 use Rattle.std.proofs.lemmas.List.{get_or-set_other, get_or-set_same, get_or_past, length-map, take-append-drop, take_all, take_more}
 use Rattle.def_sums.specs.Sum.{nat_sum_over}
 use Rattle.def_sums.proofs.SumLaws.{nat_sum_over-append}
 use Rattle.def_round.specs.Round.{utility}
+use Rattle.xg_closer.proofs.Growing.{read_back}
 use Rattle.xg_closer.proofs.RowSums.{own_amount_beyond}
 use Rattle.xg_closer.proofs.closing.take_small_rows.Goals as goal
-use Rattle.def_plan.specs.FormRows.{amount_of}
 
 pub own_row-requires : goal.own_row-requires
 own_row-requires g c =
-    let fits_small : FitsSigned w64 c.in-Some.row = search rules in
-    let small_is : to_z w64 (of_z w64 c.in-Some.row) ≡ c.in-Some.row = to_z-of_z w64 c.in-Some.row fits_small in
+    let small_is = to_z-of_z w64 c.in-Some.row (search rules) in
     let known = c.in-Some.ensures.within in
     omega (arith, ap unsigned_abs (small_is ∙ known.0), known.1, c.loop-i.invariant.1)
 
@@ -23,16 +22,10 @@ loop-i-preserved g c =
     let rows : List ℤ = map g.A.Worth.amount c.args.rows.now in
     let count : length rows ≡ length c.args.rows.now = length-map c.args.rows.now g.A.Worth.amount in
     let i : ℕ = c.loop-i.i in
-    let row : ℤ = amount_of rows i in
-    let fits : FitsSigned w128 c.worth_at.result = search rules in
-    let row_is : to_z w128 (of_z w128 c.worth_at.result) ≡ row = to_z-of_z w128 c.worth_at.result fits ∙ c.worth_at.ensures in
-    let fits_small : FitsSigned w64 c.in-Some.row = search rules in
-    let small_is : to_z w64 (of_z w64 c.in-Some.row) ≡ c.in-Some.row = to_z-of_z w64 c.in-Some.row fits_small in
+    let row_is = read_back c.worth_at.result _ (search rules) c.worth_at.ensures in
     let known = c.in-Some.ensures.within in
-    let taken : to_z w64 (of_z w64 c.in-Some.row) ≡ row = small_is ∙ known.0 ∙ row_is in
-    let fits_own : FitsSigned w64 c.own_row.result = search rules in
-    let own_is : to_z w64 (of_z w64 c.own_row.result) ≡ utility c.args.player row = to_z-of_z w64 c.own_row.result fits_own ∙ c.own_row.ensures
-    ∙ ap (utility c.args.player) taken in
+    let taken = to_z-of_z w64 c.in-Some.row (search rules) ∙ known.0 ∙ row_is in
+    let own_is = to_z-of_z w64 c.own_row.result (search rules) ∙ c.own_row.ensures ∙ ap (utility c.args.player) taken in
     let below : i < length rows = omega (arith, count, c.loop-i-test.true) in
     let inside : i < length c.loop-i.worths = omega (arith, c.loop-i.invariant.0, c.requires.as_many, c.loop-i-test.true) in (
       length-set c.loop-i.worths i (to_z w64 (of_z w64 c.own_row.result)) ∙ c.loop-i.invariant.0,
@@ -75,9 +68,7 @@ returns-in_default-clause-sizes g c small =
     let rows : List ℤ = map g.A.Worth.amount c.args.rows.now in
     let count : length rows ≡ length c.args.rows.now = length-map c.args.rows.now g.A.Worth.amount in
     let i : ℕ = c.loop-i.i in
-    let row : ℤ = amount_of rows i in
-    let fits : FitsSigned w128 c.worth_at.result = search rules in
-    let row_is : to_z w128 (of_z w128 c.worth_at.result) ≡ row = to_z-of_z w128 c.worth_at.result fits ∙ c.worth_at.ensures in
+    let row_is = read_back c.worth_at.result _ (search rules) c.worth_at.ensures in
     let below : i < length rows = omega (arith, count, c.loop-i-test.true) in
     let large = c.in_default.ensures.none refl (omega (arith, c.loop-i.invariant.1)) in
     absurd (

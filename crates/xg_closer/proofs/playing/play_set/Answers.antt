@@ -8,8 +8,8 @@ use Rattle.xg_closer.proofs.Deals.{length-positive_parts, only_share}
 use Rattle.xg_closer.proofs.Writing.{plays_more, plays_none}
 use Rattle.xg_closer.proofs.playing.play_set.Goals as goal
 
-pub returns-then-place-eq1 : goal.returns-then-place-eq1
-returns-then-place-eq1 g c =
+pub returns-then-place-lt2 : goal.returns-then-place-lt2
+returns-then-place-lt2 g c =
     let h : PlacedSet = placed_of_row c.args.place in
     let play : List ℕ = c.args.play.now in
     let shares : List ℕ = set_play (map g.R.Worth.amount c.args.regrets.now) h in

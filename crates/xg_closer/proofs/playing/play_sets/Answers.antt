@@ -20,46 +20,23 @@ loop-set-init g c = (
       ∙ ap (λ s. slice_index (play_of (player_sets c.args.form.now c.args.player) (map g.R.Worth.amount c.args.regrets.now)) s) (sym first),
 )
 
-pub play_set-requires-clause-from_one : goal.play_set-requires-clause-from_one
-play_set-requires-clause-from_one g c =
-    let at = row_at (player_sets c.args.form.now c.args.player) c.places-places.result.now c.loop-set.set c.place_at-place.result
-    (c.facts.ensures.order c.args.player) (omega arith) c.places-places.ensures c.place_at-place.ensures in
-    omega (arith, at.first)
-
-pub play_set-requires-clause-some : goal.play_set-requires-clause-some
-play_set-requires-clause-some g c =
-    let at = row_at (player_sets c.args.form.now c.args.player) c.places-places.result.now c.loop-set.set c.place_at-place.result
-    (c.facts.ensures.order c.args.player) (omega arith) c.places-places.ensures c.place_at-place.ensures in
-    at.some
-
-pub play_set-requires-clause-few : goal.play_set-requires-clause-few
-play_set-requires-clause-few g c =
+pub play_set-requires : goal.play_set-requires
+play_set-requires g c =
     let sets : List InformationSet = player_sets c.args.form.now c.args.player in
     let h : PlacedSet = placed_of_row c.place_at-place.result in
+    let at = row_at sets c.places-places.result.now c.loop-set.set c.place_at-place.result
+    (c.facts.ensures.order c.args.player) (omega arith) c.places-places.ensures c.place_at-place.ensures in
     let below : c.loop-set.set < length sets = omega (arith, all_places sets c.places-places.result.now c.places-places.ensures) in
-    let at = row_at (player_sets c.args.form.now c.args.player) c.places-places.result.now c.loop-set.set c.place_at-place.result
-    (c.facts.ensures.order c.args.player) (omega arith) c.places-places.ensures c.place_at-place.ensures in
-    few_at sets c.loop-set.set h (c.facts.ensures.few_actions c.args.player) below at
-
-pub play_set-requires-clause-inside : goal.play_set-requires-clause-inside
-play_set-requires-clause-inside g c =
-    let at = row_at (player_sets c.args.form.now c.args.player) c.places-places.result.now c.loop-set.set c.place_at-place.result
-    (c.facts.ensures.order c.args.player) (omega arith) c.places-places.ensures c.place_at-place.ensures in
-    omega (arith, at.inside, c.requires.as_regrets)
-
-pub play_set-requires-clause-limit : goal.play_set-requires-clause-limit
-play_set-requires-clause-limit g c =
-    omega (arith, c.facts.ensures.limit c.args.player, c.requires.as_regrets)
-
-pub play_set-requires-clause-small : goal.play_set-requires-clause-small
-play_set-requires-clause-small g c =
-    let sets : List InformationSet = player_sets c.args.form.now c.args.player in
-    let h : PlacedSet = placed_of_row c.place_at-place.result in
-    let below : c.loop-set.set < length sets = omega (arith, all_places sets c.places-places.result.now c.places-places.ensures) in
-    let at = row_at (player_sets c.args.form.now c.args.player) c.places-places.result.now c.loop-set.set c.place_at-place.result
-    (c.facts.ensures.order c.args.player) (omega arith) c.places-places.ensures c.place_at-place.ensures in
-    small_at sets (map g.R.Worth.amount c.args.regrets.now) c.loop-set.set h at c.requires.small
-    (few_at sets c.loop-set.set h (c.facts.ensures.few_actions c.args.player) below at)
+    let few = few_at sets c.loop-set.set h (c.facts.ensures.few_actions c.args.player) below at in
+    record {
+      from_one = omega (arith, at.first);
+      some = at.some;
+      few = few;
+      inside = omega (arith, at.inside, c.requires.as_regrets);
+      as_many = omega (arith, c.loop-set.invariant.0, c.requires.as_play, c.requires.as_regrets);
+      limit = omega (arith, c.facts.ensures.limit c.args.player, c.requires.as_regrets);
+      small = small_at sets (map g.R.Worth.amount c.args.regrets.now) c.loop-set.set h at c.requires.small few;
+    }
 
 pub loop-set-preserved : goal.loop-set-preserved
 loop-set-preserved g c =
@@ -81,19 +58,8 @@ loop-set-preserved g c =
           (cases_lt s h.first),
     )
 
-pub returns-clause-by_regrets : goal.returns-clause-by_regrets
-returns-clause-by_regrets g c =
-    let sets : List InformationSet = player_sets c.args.form.now c.args.player in
-    let done : c.loop-set.set ≡ length sets = omega (arith, all_places sets c.places-places.result.now c.places-places.ensures) in
-    let all : start_of sets c.loop-set.set ≡ sequence_count sets =
-    ap (start_of sets) done ∙ ap sequence_count (take_all (length sets) sets (omega arith)) in
-    let count = (plays_each_set sets (map g.R.Worth.amount c.args.regrets.now)).all_sequences in
-    same_number_lists c.loop-set.play (play_of sets (map g.R.Worth.amount c.args.regrets.now))
-    (c.loop-set.invariant.0 ∙ c.requires.as_play ∙ sym count)
-    (λ s low. c.loop-set.invariant.1 s (omega (arith, all, count, c.loop-set.invariant.0, c.requires.as_play)))
-
-pub returns-clause-all_units : goal.returns-clause-all_units
-returns-clause-all_units g c =
+pub returns : goal.returns
+returns g c =
     let sets : List InformationSet = player_sets c.args.form.now c.args.player in
     let done : c.loop-set.set ≡ length sets = omega (arith, all_places sets c.places-places.result.now c.places-places.ensures) in
     let all : start_of sets c.loop-set.set ≡ sequence_count sets =
@@ -103,8 +69,9 @@ returns-clause-all_units g c =
     same_number_lists c.loop-set.play (play_of sets (map g.R.Worth.amount c.args.regrets.now))
     (c.loop-set.invariant.0 ∙ c.requires.as_play ∙ sym count)
     (λ s low. c.loop-set.invariant.1 s (omega (arith, all, count, c.loop-set.invariant.0, c.requires.as_play))) in
-    subst (λ play. GivesAllUnits play sets) (sym is)
-    (plays_all_units sets (map g.R.Worth.amount c.args.regrets.now) (c.facts.ensures.order c.args.player))
-
-pub returns-clause-count : goal.returns-clause-count
-returns-clause-count g c = c.loop-set.invariant.0
+    record {
+      by_regrets = is;
+      all_units = subst (λ play. GivesAllUnits play sets) (sym is)
+          (plays_all_units sets (map g.R.Worth.amount c.args.regrets.now) (c.facts.ensures.order c.args.player));
+      count = c.loop-set.invariant.0;
+    }

@@ -44,6 +44,5 @@ returns g c =
     let second : PlaysFirst h.first 2 shares play (set (set play h.first q) (h.first + 1) (65536 - q)) =
     plays_more h.first 1 shares play (set play h.first q) (65536 - q) first (omega (arith, first.count, c.requires.as_many, c.requires.inside))
     (omega (arith, dealt.1)) in
-    let written : c.set-2.new.self ≡ set (set play h.first q) (h.first + 1) (65536 - q) =
-    c.set-2.ensures ∙ ap (λ xs. set xs (h.first + 1) (65536 - q)) c.set.ensures in
-    subst (λ n. PlaysFirst h.first n shares play c.set-2.new.self) (sym c.requires.two) (subst (PlaysFirst h.first 2 shares play) (sym written) second)
+    subst (λ n. PlaysFirst h.first n shares play c.set_two.new.self) (sym c.requires.two)
+    (subst (PlaysFirst h.first 2 shares play) (sym c.set_two.ensures) second)

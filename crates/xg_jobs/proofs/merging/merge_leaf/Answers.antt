@@ -33,8 +33,8 @@ new-requires g c =
     })
     (omega (arith, ap unsigned_abs both.sum_is, both.within))
 
-pub returns-then-other-clause-takes : goal.returns-then-other-clause-takes
-returns-then-other-clause-takes g c =
+pub returns-then-other : goal.returns-then-other
+returns-then-other g c =
     let items = c.args.entries.now.items in
     let place : ℕ = slice_index c.args.places.now c.other-other.result in
     let low : place < length items = omega arith in
@@ -51,43 +51,16 @@ returns-then-other-clause-takes g c =
     let leaf_is : leaf c.new.result ≡ with_more (leaf x) more = c.new.ensures ∙ (λ i. known (sym own i) (sum.sum_is i)) in
     let set_is : map leaf (set items place c.new.result) ≡ set gs place (with_more (leaf x) more) = map-set leaf items place c.new.result
     ∙ (λ i. set gs place (leaf_is i)) in
-    subst (TakesLeaf c.args.begin (leaf c.args.e) gs) (sym set_is)
-    (leaf_added c.args.begin place (leaf c.args.e) (leaf x) gs (omega arith) (omega (arith, length-map items leaf))
-    (leaf_at leaf items place x low c.index-then-other.ensures) (own ∙ c.other-other.ensures))
+    let read = leaf_at leaf items place x low c.index-then-other.ensures in
+    record {
+      takes = subst (TakesLeaf c.args.begin (leaf c.args.e) gs) (sym set_is)
+          (leaf_added c.args.begin place (leaf c.args.e) (leaf x) gs (omega arith) (omega (arith, length-map items leaf)) read (own ∙ c.other-other.ensures));
+      told = subst (TellPlaces c.args.begin c.args.places.now) (sym set_is)
+          (told_added c.args.begin place c.args.places.now (leaf x) more gs read c.requires.told);
+    }
 
-pub returns-then-other-clause-told : goal.returns-then-other-clause-told
-returns-then-other-clause-told g c =
-    let items = c.args.entries.now.items in
-    let place : ℕ = slice_index c.args.places.now c.other-other.result in
-    let low : place < length items = omega arith in
-    let x = c.index-then-other.result.now in
-    let leaf = g.E.GroupEntry.leaf in
-    let more : ℤ = (leaf c.args.e).weight in
-    let sum = weights_add_up leaf items c.args.begin place x c.weight.result c.weight-then-other.result more
-    (omega arith) low c.index-then-other.ensures (search rules) c.weight.ensures (search rules) c.weight-then-other.ensures c.requires.light in
-    let gs : List GroupLeaf = map leaf items in
-    let y = c.index.result.now in
-    let both : y ≡ x = c.index.ensures ∙ get_or_default items place y x low ∙ sym c.index-then-other.ensures in
-    let own : (leaf x).other ≡ c.other-other.result = ap (λ z. (leaf z).other) (sym both) ∙ omega arith in
-    let known : ℕ → ℤ → GroupLeaf = λ b w. record { other = b; weight = w } in
-    let leaf_is : leaf c.new.result ≡ with_more (leaf x) more = c.new.ensures ∙ (λ i. known (sym own i) (sum.sum_is i)) in
-    let set_is : map leaf (set items place c.new.result) ≡ set gs place (with_more (leaf x) more) = map-set leaf items place c.new.result
-    ∙ (λ i. set gs place (leaf_is i)) in
-    subst (TellPlaces c.args.begin c.args.places.now) (sym set_is)
-    (told_added c.args.begin place c.args.places.now (leaf x) more gs (leaf_at leaf items place x low c.index-then-other.ensures) c.requires.told)
-
-pub returns-clause-takes : goal.returns-clause-takes
-returns-clause-takes g c =
-    let items = c.args.entries.now.items in
-    let leaf = g.E.GroupEntry.leaf in
-    let gs : List GroupLeaf = map leaf items in
-    let pushed : map leaf c.push.new.self.items ≡ gs ++ leaf c.args.e ∷ [] =
-    ap (map leaf) c.in_ok-push.ensures.items ∙ map-append leaf items (c.args.e ∷ []) in
-    subst (TakesLeaf c.args.begin (leaf c.args.e) gs) (sym pushed)
-    (leaf_pushed c.args.begin (leaf c.args.e) gs (omega (arith, c.requires.begin, length-map items leaf)))
-
-pub returns-clause-told : goal.returns-clause-told
-returns-clause-told g c =
+pub returns : goal.returns
+returns g c =
     let items = c.args.entries.now.items in
     let leaf = g.E.GroupEntry.leaf in
     let gs : List GroupLeaf = map leaf items in
@@ -113,7 +86,11 @@ returns-clause-told g c =
       | else-begin-place-via-then-begin-place+else-place-len w ↦ absurd (omega (arith, at, low, w.if-place-len.false, w.len.ensures, length-map items leaf))
       | else-begin-place-via-else-begin-place w ↦ absurd (omega (arith, at, from, w.if-begin-place.false))
     ] in
-    subst (λ k. TellPlaces c.args.begin (set places k c.len-2.result) new) (sym own)
-    (subst (λ n. TellPlaces c.args.begin (set places e.other n) new) (sym count)
-    (subst (TellPlaces c.args.begin (set places e.other (length gs))) (sym pushed)
-    (told_pushed c.args.begin places e gs c.requires.within c.requires.told none)))
+    record {
+      takes = subst (TakesLeaf c.args.begin e gs) (sym pushed) (leaf_pushed c.args.begin e gs (omega (arith, c.requires.begin, length-map items leaf)));
+      told =
+          subst (λ k. TellPlaces c.args.begin (set places k c.len-2.result) new) (sym own)
+          (subst (λ n. TellPlaces c.args.begin (set places e.other n) new) (sym count)
+          (subst (TellPlaces c.args.begin (set places e.other (length gs))) (sym pushed)
+          (told_pushed c.args.begin places e gs c.requires.within c.requires.told none)));
+    }

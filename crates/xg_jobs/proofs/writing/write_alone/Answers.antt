@@ -1,103 +1,31 @@
-use Rattle.std.proofs.Common.{◌≡◌, ℕ, ◌+◌, ◌*◌, ◌<◌, ◌≤◌, max, List, map, length, All, arith, sym, ap, subst, ◌∙◌}
+use Rattle.std.proofs.Common.{◌≡◌, List, map, length, arith, sym, ap, ◌∙◌}
 use Rattle.std.proofs.lemmas.List.{length-map}
-use Rattle.def_sums.specs.Limits.{most_root}
 use Rattle.def_tree.specs.Opponent.{opponent}
 use Rattle.def_plan.specs.Form.{SequenceForm, player_sets, sequence_count}
 use Rattle.def_plan.specs.FormRows.{player_rows}
-use Rattle.xg_jobs.specs.Groups.{GroupLeaf, greatest_of, group_at, groups_mass, parts_sum}
-use Rattle.xg_jobs.specs.Writing.{CanWrite}
-use Rattle.xg_jobs.proofs.FormRows.{all_groups, from_zero, other_rows, own_rows, room_for}
-use Rattle.xg_jobs.proofs.Greatest.{at_most_greatest, greatest_within}
+use Rattle.xg_jobs.specs.Groups.{GroupLeaf, parts_sum}
+use Rattle.xg_jobs.proofs.FormRows.{can_pass, from_zero, other_rows, own_rows, pass_room}
 use Rattle.xg_jobs.proofs.writing.write_alone.Goals as goal
-
-greatest_of_both : (x : List ℕ) → max (greatest_of x) (greatest_of x) ≡ greatest_of x
-greatest_of_both x = grind arith
 
 pub sum_groups-requires : goal.sum_groups-requires
 sum_groups-requires g c κs within =
     let form : SequenceForm = c.args.input.now.form.now in
-    let starts = c.args.starts.now in
-    let gs : List GroupLeaf = map g.E.GroupEntry.leaf c.args.entries.now in
-    let x = c.args.input.now.against.now in
-    let n : ℕ = length c.args.rows.now in
-    let can : CanWrite g.R.Row.limit starts gs form x x = c.requires.can in
-    let count : n ≡ sequence_count form.sets_one = c.requires.count ∙ ap (λ p. sequence_count (player_sets form p)) c.in-One.is in
-    let numbers : length x ≡ sequence_count form.sets_two = c.requires.numbers ∙ ap (λ p. sequence_count (player_sets form (opponent p))) c.in-One.is in
-    let all : n + 1 ≡ length starts = omega (arith, count, all_groups g.R.Row.limit starts gs form x x can) in
-    let low_most : greatest_of x ≤ most_root = greatest_within x most_root c.requires.small in
-    let size : length gs ≡ length c.args.entries.now = length-map c.args.entries.now g.E.GroupEntry.leaf in (
-      within.0,
-      (
-        within.1,
-        (
-          λ s low. can.kept.ordered s (omega (arith, all)),
-          (
-            λ s low. omega (arith, can.kept.inside (s + 1) (omega (arith, all)), size),
-            (
-              all,
-              (
-                λ s low.
-                    subst (λ m. All (λ e. e.other < m) (group_at starts gs s)) (sym numbers) (can.kept.within s (omega (arith, all))),
-                (
-                  at_most_greatest x,
-                  (
-                    omega (arith, low_most),
-                    omega (
-                      arith,
-                      greatest_of_both x,
-                      ap (λ k. groups_mass starts gs n * k) (greatest_of_both x),
-                      room_for g.R.Row.limit starts gs form x x can _ n (c.requires.zeros 0) all,
-                    ),
-                  ),
-                ),
-              ),
-            ),
-          ),
-        ),
-      ),
-    )
+    let own : length c.args.rows.now ≡ sequence_count form.sets_one = c.requires.count ∙ ap (λ p. sequence_count (player_sets form p)) c.in-One.is in
+    let others = c.requires.numbers ∙ ap (λ p. sequence_count (player_sets form (opponent p))) c.in-One.is in
+    let room = pass_room g.E.GroupEntry.leaf c.args.entries.now c.requires.can own _ (c.requires.zeros 0) in
+    (within.0, (within.1, can_pass g.E.GroupEntry.leaf c.args.entries.now c.requires.can own others c.requires.small (omega (arith, room))))
 
 pub spread_groups-requires : goal.spread_groups-requires
 spread_groups-requires g c κs within =
     let form : SequenceForm = c.args.input.now.form.now in
-    let starts = c.args.starts.now in
-    let gs : List GroupLeaf = map g.E.GroupEntry.leaf c.args.entries.now in
-    let x = c.args.input.now.against.now in
-    let n : ℕ = length x in
-    let can : CanWrite g.R.Row.limit starts gs form x x = c.requires.can in
-    let count : length c.args.rows.now ≡ sequence_count form.sets_two = c.requires.count ∙ ap (λ p. sequence_count (player_sets form p)) c.in-Two.is in
-    let numbers : n ≡ sequence_count form.sets_one = c.requires.numbers ∙ ap (λ p. sequence_count (player_sets form (opponent p))) c.in-Two.is in
-    let all : n + 1 ≡ length starts = omega (arith, numbers, all_groups g.R.Row.limit starts gs form x x can) in
-    let low_most : greatest_of x ≤ most_root = greatest_within x most_root c.requires.small in
-    let size : length gs ≡ length c.args.entries.now = length-map c.args.entries.now g.E.GroupEntry.leaf in (
+    let own : length c.args.input.now.against.now ≡ sequence_count form.sets_one =
+    c.requires.numbers ∙ ap (λ p. sequence_count (player_sets form (opponent p))) c.in-Two.is in
+    let others = c.requires.count ∙ ap (λ p. sequence_count (player_sets form p)) c.in-Two.is in (
       within.0,
       (
         within.1,
-        (
-          λ s low. can.kept.ordered s (omega (arith, all)),
-          (
-            λ s low. omega (arith, can.kept.inside (s + 1) (omega (arith, all)), size),
-            (
-              all,
-              (
-                λ s low.
-                    subst (λ m. All (λ e. e.other < m) (group_at starts gs s)) (sym count) (can.kept.within s (omega (arith, all))),
-                (
-                  at_most_greatest x,
-                  (
-                    omega (arith, low_most),
-                    λ b. omega (
-                      arith,
-                      greatest_of_both x,
-                      ap (λ k. groups_mass starts gs n * k) (greatest_of_both x),
-                      room_for g.R.Row.limit starts gs form x x can _ n (c.requires.zeros b) all,
-                    ),
-                  ),
-                ),
-              ),
-            ),
-          ),
-        ),
+        can_pass g.E.GroupEntry.leaf c.args.entries.now c.requires.can own others c.requires.small
+            (λ b. pass_room g.E.GroupEntry.leaf c.args.entries.now c.requires.can own _ (c.requires.zeros b)),
       ),
     )
 

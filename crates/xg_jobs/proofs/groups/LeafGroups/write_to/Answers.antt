@@ -1,44 +1,22 @@
-use Rattle.std.proofs.Common.{◌^◌, map, sym, ap, ◌∙◌}
+use Rattle.std.proofs.Common.{map, sym, ap, ◌∙◌}
 use Rattle.xg_jobs.specs.Entries.{leaves_of_group, small_leaf, tiny_leaf, wide_leaf}
-use Rattle.xg_jobs.specs.Grouping.{GroupedWeights}
 use Rattle.xg_jobs.proofs.FormRows.{can_write, wide_room}
 use Rattle.xg_jobs.proofs.groups.LeafGroups.write_to.Goals as goal
 
 pub write_rows-requires-clause-can : goal.write_rows-requires-clause-can
 write_rows-requires-clause-can c =
-    let form = c.args.input.now.form.now in
-    let x = c.args.input.now.one.now in
-    let y = c.args.input.now.two.now in
-    let groups = c.self.inside in
-    can_write (2 ^ 127) groups.starts.items c.deref.result.now (leaves_of_group groups.entries) (map tiny_leaf c.deref-in-Tiny.result.now) form x y
-    groups.others groups.mass
-    c.deref.ensures.value (ap (map tiny_leaf) c.deref-in-Tiny.ensures.value ∙ sym (ap leaves_of_group c.in-Tiny.is))
-    (ap (λ (g : GroupedWeights). g.weights) c.self.view_is ∙ c.requires.groups) c.self.invariant.0 c.facts.ensures.sequences
-    (wide_room groups.starts.items (leaves_of_group groups.entries) x y groups.others groups.mass c.self.invariant.0 c.requires.numbers.small_one
-    c.requires.numbers.small_two)
+    can_write c.self.invariant.0 c.self.view_is c.requires.groups c.facts.ensures.sequences c.deref.ensures.value
+    (ap (map tiny_leaf) c.deref-in-Tiny.ensures.value ∙ sym (ap leaves_of_group c.in-Tiny.is))
+    (wide_room _ _ c.self.invariant.0 c.requires.numbers.small_one c.requires.numbers.small_two)
 
 pub write_rows-requires-in-Small-clause-can : goal.write_rows-requires-in-Small-clause-can
 write_rows-requires-in-Small-clause-can c =
-    let form = c.args.input.now.form.now in
-    let x = c.args.input.now.one.now in
-    let y = c.args.input.now.two.now in
-    let groups = c.self.inside in
-    can_write (2 ^ 127) groups.starts.items c.deref-in-Small.result.now (leaves_of_group groups.entries) (map small_leaf c.deref-in-Small-2.result.now) form x y
-    groups.others groups.mass
-    c.deref-in-Small.ensures.value (ap (map small_leaf) c.deref-in-Small-2.ensures.value ∙ sym (ap leaves_of_group c.in-Small.is))
-    (ap (λ (g : GroupedWeights). g.weights) c.self.view_is ∙ c.requires.groups) c.self.invariant.0 c.facts.ensures.sequences
-    (wide_room groups.starts.items (leaves_of_group groups.entries) x y groups.others groups.mass c.self.invariant.0 c.requires.numbers.small_one
-    c.requires.numbers.small_two)
+    can_write c.self.invariant.0 c.self.view_is c.requires.groups c.facts.ensures.sequences c.deref-in-Small.ensures.value
+    (ap (map small_leaf) c.deref-in-Small-2.ensures.value ∙ sym (ap leaves_of_group c.in-Small.is))
+    (wide_room _ _ c.self.invariant.0 c.requires.numbers.small_one c.requires.numbers.small_two)
 
 pub write_rows-requires-in-Wide-clause-can : goal.write_rows-requires-in-Wide-clause-can
 write_rows-requires-in-Wide-clause-can c =
-    let form = c.args.input.now.form.now in
-    let x = c.args.input.now.one.now in
-    let y = c.args.input.now.two.now in
-    let groups = c.self.inside in
-    can_write (2 ^ 127) groups.starts.items c.deref-in-Wide.result.now (leaves_of_group groups.entries) (map wide_leaf c.deref-in-Wide-2.result.now) form x y
-    groups.others groups.mass
-    c.deref-in-Wide.ensures.value (ap (map wide_leaf) c.deref-in-Wide-2.ensures.value ∙ sym (ap leaves_of_group c.in-Wide.is))
-    (ap (λ (g : GroupedWeights). g.weights) c.self.view_is ∙ c.requires.groups) c.self.invariant.0 c.facts.ensures.sequences
-    (wide_room groups.starts.items (leaves_of_group groups.entries) x y groups.others groups.mass c.self.invariant.0 c.requires.numbers.small_one
-    c.requires.numbers.small_two)
+    can_write c.self.invariant.0 c.self.view_is c.requires.groups c.facts.ensures.sequences c.deref-in-Wide.ensures.value
+    (ap (map wide_leaf) c.deref-in-Wide-2.ensures.value ∙ sym (ap leaves_of_group c.in-Wide.is))
+    (wide_room _ _ c.self.invariant.0 c.requires.numbers.small_one c.requires.numbers.small_two)
