@@ -1,4 +1,3 @@
-pub mod RowSizes
 pub mod Growing
 pub mod PlayersFollowRounds
 pub mod Offering
@@ -6,3 +5,4 @@ pub mod PartsOfBoard
 pub mod GameFormIsOfTree
 pub mod Writable
 pub mod Left
+pub mod TurnsFollowRounds

@@ -5,3 +5,4 @@ pub mod Players
 pub mod Runs
 pub mod Sources
 pub mod State
+pub mod Turns

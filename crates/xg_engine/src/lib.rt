@@ -8,6 +8,7 @@ mod finishing;
 mod players;
 mod running;
 mod source;
+mod turns;
 
 pub use asking::head_with;
 pub use def_command::Settings;

@@ -17,6 +17,7 @@ ghost use Rattle.xg_engine.specs.Players.{regrets_kept, sum_with, times_of};
 ghost use Rattle.xg_engine.specs.Sources.{CanMakeRows};
 
 use crate::source::RowSource;
+use crate::turns::{learn_both, plan_both};
 use def_plus::Variant;
 use std::alloc::{AllocError, Global};
 use std::sync::Wait;
@@ -59,7 +60,7 @@ impl Learner {
     }
 
     /// Plays by the regrets as they stand, and adds the plan of this play to the sum.
-    fn plan_round(
+    pub(crate) fn plan_round(
         &mut self,
         form: &SeqForm,
         player: Player,
@@ -106,7 +107,13 @@ impl Learner {
     }
 
     /// The same by rows of 64 bits.
-    fn learn_small(&mut self, form: &SeqForm, player: Player, variant: Variant, rows: &[i64])
+    pub(crate) fn learn_small(
+        &mut self,
+        form: &SeqForm,
+        player: Player,
+        variant: Variant,
+        rows: &[i64],
+    )
         requires room { HasRoomForSequences (player_sets form.now player) self.old }
         requires few_rounds { self.old.regrets.closed < most_rounds }
         requires all_units { GivesAllUnits self.old.play (player_sets form.now player) }
@@ -159,15 +166,9 @@ impl Players {
             → ArePlainSums source.now.form.now self.new.one.plan self.new.two.plan self.new.rows) }
     {
         let round = u64::from(so_far) + 1;
-        self.one
-            .plan_round(source.form, Player::One, variant, scale, round);
-        self.two
-            .plan_round(source.form, Player::Two, variant, scale, round);
+        plan_both(source, variant, scale, round, &mut self.one, &mut self.two);
         if source.small_rows(&self.one.plan, &self.two.plan, &mut self.rows) {
-            self.one
-                .learn_small(source.form, Player::One, variant, self.rows.one());
-            self.two
-                .learn_small(source.form, Player::Two, variant, self.rows.two());
+            learn_both(source, variant, &self.rows, &mut self.one, &mut self.two);
             return Ok(());
         }
         let rows = source.rows(&self.one.plan, &self.two.plan)?;

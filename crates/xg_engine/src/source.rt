@@ -77,6 +77,11 @@ impl<'a, Rt: Threads + Wait + Sync, M: RowMaker> RowSource<'a, Rt, M> {
             .small_rows(self.rt, &self.input(one, two), self.jobs, rows)
     }
 
+    /// Whether it pays to start a thread for work on one of the players.
+    pub(crate) fn has_idle_threads(&self) -> bool {
+        self.maker.has_idle_threads()
+    }
+
     // What rows against these plans are made from.
     fn input<'b>(&'b self, one: &'b Plan, two: &'b Plan) -> RowInput<'b>
         requires plan_one { IsSmallPlan self.now.form.now.sets_one one.now }

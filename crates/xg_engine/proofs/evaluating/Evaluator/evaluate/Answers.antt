@@ -1,7 +1,7 @@
 use Rattle.std.proofs.Common.{◌*◌, ◌∙◌, sym}
 use Rattle.def_tree.specs.declared.Player.TheVariants.{One, Two}
 use Rattle.def_plus.specs.Variants.{weight_of_rounds}
-use Rattle.xg_engine.proofs.RowSizes.{count_of_rows, small_in_evaluation}
+use Rattle.xg_reply.proofs.RowSizes.{count_of_rows, small_in_evaluation}
 use Rattle.xg_engine.proofs.evaluating.Evaluator.evaluate.Goals as goal
 
 pub best_reply-requires-clause-rows : goal.best_reply-requires-clause-rows

@@ -1,6 +1,6 @@
 use Rattle.std.proofs.Common.{◌∙◌}
 use Rattle.def_tree.specs.declared.Player.TheVariants.{One, Two}
-use Rattle.xg_engine.proofs.RowSizes.{count_of_rows}
+use Rattle.xg_reply.proofs.RowSizes.{count_of_rows}
 use Rattle.xg_engine.proofs.evaluating.RowRoom.make.Goals as goal
 
 pub returns-in_ok-self-clause-room : goal.returns-in_ok-self-clause-room
