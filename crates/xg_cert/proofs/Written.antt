@@ -11,10 +11,11 @@ use Rattle.def_cert_text.specs.Fields.{space, feed, FieldKind, TextItem, field, 
 use Rattle.def_cert_text.proofs.FormatLaws.{items_text-append}
 use Rattle.def_reply.specs.Outcome.{Head}
 use Rattle.def_cert_text.specs.Formats.{Format, text_of, each_items, row_items}
-use Rattle.def_cert_text.specs.CertText.{size_line, sets_line, sequences_line, unit_line, mass_line, unit_alone_line, sum_line, payoff_lines, head_text_of}
+use Rattle.def_cert_text.specs.CertText.{payoff_lines, head_text_of}
 use Rattle.def_cert_text.specs.declared.version.TextVersion.{TextVersion}
-use Rattle.def_cert_text.specs.declared.version.TextVersion.TheVariants as versions
-use Rattle.xg_cert.specs.Writes.{field_text, counts_text, units_text}
+use Rattle.xg_cert.specs.declared.items.Item.{Item}
+use Rattle.xg_cert.specs.Items.{field_kind, field_bytes, separator_of, items_of}
+use Rattle.xg_cert.specs.Writes.{field_text, counts_items, counts_text, units_text}
 
 -- ---- items
 
@@ -45,14 +46,26 @@ pub last_field : {T E : Type 0} (before now : Option (List ℕ)) (k : FieldKind)
 unfolding field_text items_text
 last_field before now k w s r h = h
 
+-- the items so far are a front of the whole
+pub items_first : (before now : Option (List ℕ)) (front items : List TextItem)
+    → AppendsPrefix before now (items_text front) → AppendsPrefix before now (items_text (front ++ items))
+items_first before now front items p =
+    subst (AppendsPrefix before now) (sym (items_text-append front items))
+    (prefix_first before now (items_text front) (items_text items) p)
+
+-- the items so far, and then the rest
+pub then_items : {T E : Type 0} (before middle now : Option (List ℕ)) (front items : List TextItem) (r : Result T E)
+    → middle ≡ append_known before (items_text front) → Writes middle now (items_text items) r
+    → Writes before now (items_text (front ++ items)) r
+then_items before middle now front items r e h =
+    subst (λ (text : List ℕ). Writes before now text r) (sym (items_text-append front items))
+    (then_rest before middle now (items_text front) (items_text items) r e h)
+
 -- a front of the first two fields is a front of the whole
 pub first_two : (before now : Option (List ℕ)) (k l : FieldKind) (w v : List ℕ) (s t : ℕ) (items : List TextItem)
     → AppendsPrefix before now (items_text (field k w ∷ separator s ∷ field l v ∷ separator t ∷ []))
     → AppendsPrefix before now (items_text (field k w ∷ separator s ∷ field l v ∷ separator t ∷ items))
-first_two before now k l w v s t items p =
-    let front : List TextItem = field k w ∷ separator s ∷ field l v ∷ separator t ∷ [] in
-    subst (AppendsPrefix before now) (sym (items_text-append front items))
-    (prefix_first before now (items_text front) (items_text items) p)
+first_two before now k l w v s t items p = items_first before now (field k w ∷ separator s ∷ field l v ∷ separator t ∷ []) items p
 
 -- where two fields were written whole, writing the rest, or a front of it, has written the whole, or a front of it
 pub then_two : {T E : Type 0} (before middle now : Option (List ℕ)) (k l : FieldKind) (w v : List ℕ) (s t : ℕ)
@@ -61,32 +74,12 @@ pub then_two : {T E : Type 0} (before middle now : Option (List ℕ)) (k l : Fie
     → Writes middle now (items_text items) r
     → Writes before now (items_text (field k w ∷ separator s ∷ field l v ∷ separator t ∷ items)) r
 then_two before middle now k l w v s t items r e h =
-    let front : List TextItem = field k w ∷ separator s ∷ field l v ∷ separator t ∷ [] in
-    subst (λ (text : List ℕ). Writes before now text r) (sym (items_text-append front items))
-    (then_rest before middle now (items_text front) (items_text items) r e h)
+    then_items before middle now (field k w ∷ separator s ∷ field l v ∷ separator t ∷ []) items r e h
 
 -- the lines of the game's numbers are the counts and the units
-units-items : (v : TextVersion) (head : Head)
-    → units_text v head ≡ items_text ((payoff_lines v).items ((head.unit, head.sum), head.mass))
-units-items versions.One head = sym (items_text-append (unit_line.items (head.unit, head.sum)) (mass_line.items head.mass))
-units-items versions.Two head =
-    let mass : List TextItem = mass_line.items head.mass in
-    let sum : List TextItem = sum_line.items head.sum in
-    ap (λ (bs : List ℕ). items_text (unit_alone_line.items head.unit) ++ bs) (sym (items_text-append mass sum))
-    ∙ sym (items_text-append (unit_alone_line.items head.unit) (mass ++ sum))
-
 pub head-parts : (v : TextVersion) (head : Head) → counts_text head ++ units_text v head ≡ head_text_of v head
 head-parts v head =
-    let size : List TextItem = size_line.items (head.nodes, head.leaves) in
-    let sets : List TextItem = sets_line.items (head.sets_one, head.sets_two) in
-    let sequences : List TextItem = sequences_line.items (head.sequences_one, head.sequences_two) in
-    let units : List TextItem = (payoff_lines v).items ((head.unit, head.sum), head.mass) in
-    ap (λ (bs : List ℕ). counts_text head ++ bs) (units-items v head)
-    ∙ append_assoc (items_text size) (items_text sets ++ items_text sequences) (items_text units)
-    ∙ ap (λ (bs : List ℕ). items_text size ++ bs) (append_assoc (items_text sets) (items_text sequences) (items_text units)
-    ∙ ap (λ (bs : List ℕ). items_text sets ++ bs) (sym (items_text-append sequences units))
-    ∙ sym (items_text-append sets (sequences ++ units)))
-    ∙ sym (items_text-append size (sets ++ (sequences ++ units)))
+    sym (items_text-append (counts_items head) ((payoff_lines v).items ((head.unit, head.sum), head.mass)))
 
 -- ---- loops
 
@@ -157,3 +150,44 @@ row_last (n ∷ []) zero d e = refl
 row_last (n ∷ []) (suc i) d e = absurd (omega arith)
 row_last (n ∷ m ∷ ns) zero d e = absurd (omega arith)
 row_last (n ∷ m ∷ ns) (suc i) d e = row_last (m ∷ ns) i d (omega arith)
+
+-- ---- items as data
+
+items_left : (xs : List Item) (i : ℕ) (d : Item) → i < length xs
+    → items_text (items_of (drop i xs))
+    ≡ field_text (field_bytes (get_or xs i d)) (separator_of (get_or xs i d)) ++ items_text (items_of (drop (i + 1) xs))
+items_left xs i d lt =
+    let x = get_or xs i d in
+    ap (λ (ys : List Item). items_text (items_of ys)) (drop_more xs i d lt)
+    ∙ sym (field-items (field_kind x) (field_bytes x) (separator_of x) (items_of (drop (i + 1) xs)))
+
+items_all : (xs : List Item) (i : ℕ) → length xs ≤ i → items_text (items_of (drop i xs)) ≡ []
+unfolding items_text
+items_all [] zero le = refl
+items_all [] (suc i) le = refl
+items_all (x ∷ xs) zero le = absurd (omega arith)
+items_all (x ∷ xs) (suc i) le = items_all xs i (omega arith)
+
+-- one item more is written
+pub item_step : (before middle now : Option (List ℕ)) (xs : List Item) (i : ℕ) (d : Item) → i < length xs
+    → Progress before middle (items_text (items_of xs)) (items_text (items_of (drop i xs)))
+    → now ≡ append_known middle (field_text (field_bytes (get_or xs i d)) (separator_of (get_or xs i d)))
+    → Progress before now (items_text (items_of xs)) (items_text (items_of (drop (i + 1) xs)))
+item_step before middle now xs i d lt p w =
+    goes_on before middle now (items_text (items_of xs)) _ (field_text (field_bytes (get_or xs i d)) (separator_of (get_or xs i d))) _ p
+    (items_left xs i d lt) w
+
+-- an item failed
+pub item_fail : (before middle now : Option (List ℕ)) (xs : List Item) (i : ℕ) (d : Item) → i < length xs
+    → Progress before middle (items_text (items_of xs)) (items_text (items_of (drop i xs)))
+    → AppendsPrefix middle now (field_text (field_bytes (get_or xs i d)) (separator_of (get_or xs i d)))
+    → AppendsPrefix before now (items_text (items_of xs))
+item_fail before middle now xs i d lt p w =
+    fails before middle now (items_text (items_of xs)) _ (field_text (field_bytes (get_or xs i d)) (separator_of (get_or xs i d))) _ p
+    (items_left xs i d lt) w
+
+-- all items are written
+pub item_end : (before now : Option (List ℕ)) (xs : List Item) (i : ℕ) → length xs ≤ i
+    → Progress before now (items_text (items_of xs)) (items_text (items_of (drop i xs)))
+    → now ≡ append_known before (items_text (items_of xs))
+item_end before now xs i le p = whole before now (items_text (items_of xs)) _ p (items_all xs i le)

@@ -3,3 +3,4 @@ pub mod Writable
 pub mod Printed
 pub mod ReadCert
 pub mod Answers
+pub mod Items

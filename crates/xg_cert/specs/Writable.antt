@@ -1,15 +1,14 @@
 -- What can be written, and the texts of its parts.
-use Rattle.std.specs.Prelude.{◌≡◌, ℕ, ◌*◌, ◌≤◌, List, [], ◌++◌, codes, length, slice_index, unsigned_abs, Option, Some}
+use Rattle.std.specs.Prelude.{ℕ, ◌*◌, ◌≤◌, List, [], ◌++◌, codes, length, unsigned_abs, Option, Some}
 use Rattle.std.specs.Prelude.{None}
 use Rattle.std.specs.Int.{◌∣◌}
 use Rattle.def_fraction.specs.Fraction.{Fraction, most}
 use Rattle.def_game_scale.specs.Scale.{weight_of}
 use Rattle.def_tree.specs.declared.Player.{Player}
 use Rattle.def_tree.specs.declared.Player.TheVariants.{One, Two}
-use Rattle.def_plan.specs.Form.{InformationSet, SequenceForm, sequence_count}
 use Rattle.def_sums.specs.Limits.{most_root, most_row}
 use Rattle.def_reply.specs.Reply.{Reply}
-use Rattle.def_reply.specs.Outcome.{Head, End, OutcomeEnds, Outcome}
+use Rattle.def_reply.specs.Outcome.{Head, End}
 use Rattle.def_cert_verdict.specs.Certificate.{PrintedPlan, PrintedBounds}
 use Rattle.def_cert_verdict.specs.Ranges.{IsFromTo}
 use Rattle.def_cert_accepted.specs.OfOutcome.{printed_bounds}

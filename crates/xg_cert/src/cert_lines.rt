@@ -1,6 +1,5 @@
 //! Further lines of the text that have a field for each number.
-ghost use Rattle.std.specs.Prelude.{[], ◌∷◌, codes};
-ghost use Rattle.std.specs.Fmt.{decimal, signed_decimal};
+ghost use Rattle.std.specs.Prelude.{[], ◌∷◌};
 ghost use Rattle.def_fraction.specs.Text.{fraction_text};
 ghost use Rattle.def_outside.specs.Cause.{HasCause};
 ghost use Rattle.def_cert_text.specs.Fields.{space, feed, fixed_word, number, field, separator, items_text};
@@ -10,7 +9,8 @@ ghost use Rattle.xg_outcome.specs.Outcome.{head_of};
 ghost use Rattle.xg_cert.specs.Writable.{opening_line};
 ghost use Rattle.def_outside.specs.Sinks.{Writes};
 
-use crate::fields::{put_field, put_fraction, put_signed, put_whole};
+use crate::fields::{put_signed, put_whole};
+use crate::items::{Item, put_items};
 use crate::lines::put_named;
 use def_reply::TraceLine;
 use xg_frac::Ratio;
@@ -45,61 +45,34 @@ pub(crate) fn put_last_line<O: Sink>(out: &mut O) -> Result<(), WriteFault>
 }
 
 /// What was asked.
-#[tactic(auto, using(crate::proofs::Written::first_two, crate::proofs::Written::then_two))]
 pub(crate) fn put_asked<O: Sink>(head: &Head, out: &mut O) -> Result<(), WriteFault>
     ensures text { Writes (O.written out.old) (O.written out.new) (asked_text (head_of head.now)) result }
     ensures cause { HasCause (O.faults out.old) (O.faults out.new) result }
 {
-    put_named(b"rounds", head.rounds as u64, b' ', out)?;
-    put_steps(head.every, head.scale, out)
+    let items = [
+        Item::Word(b"rounds"),
+        Item::Whole(head.rounds as u64, b' '),
+        Item::Word(b"every"),
+        Item::Whole(head.every as u64, b' '),
+        Item::Word(b"scale"),
+        Item::Whole(head.scale as u64, b'\n'),
+    ];
+    put_items(&items, out)
 }
 
-/// After how many rounds each evaluation comes, and the scale of a round's plans.
-#[tactic(auto, using(crate::proofs::Written::first_two, crate::proofs::Written::then_two))]
-fn put_steps<O: Sink>(every: u32, scale: u32, out: &mut O) -> Result<(), WriteFault>
-    ensures text { Writes (O.written out.old) (O.written out.new)
-        (items_text (field fixed_word (codes "every") ∷ separator space ∷ field number (decimal every) ∷ separator space
-        ∷ field fixed_word (codes "scale") ∷ separator space ∷ field number (decimal scale) ∷ separator feed ∷ []))
-        result }
-    ensures cause { HasCause (O.faults out.old) (O.faults out.new) result }
-{
-    put_named(b"every", every as u64, b' ', out)?;
-    put_named(b"scale", scale as u64, b'\n', out)
-}
-
-#[tactic(auto, using(crate::proofs::Written::first_two, crate::proofs::Written::then_two))]
 pub(crate) fn put_trace_line<O: Sink>(row: &TraceLine, out: &mut O) -> Result<(), WriteFault>
     ensures text { Writes (O.written out.old) (O.written out.new) (text_of (line_of_round 1) row.now) result }
     ensures cause { HasCause (O.faults out.old) (O.faults out.new) result }
 {
-    put_named(b"trace", row.round as u64, b' ', out)?;
-    put_traced_ends(row, out)
-}
-
-/// Both ends.
-#[tactic(auto, using(crate::proofs::Written::first_two, crate::proofs::Written::then_two))]
-fn put_traced_ends<O: Sink>(row: &TraceLine, out: &mut O) -> Result<(), WriteFault>
-    ensures text { Writes (O.written out.old) (O.written out.new)
-        (items_text (field number (decimal row.now.low_round) ∷ separator space
-        ∷ field number (signed_decimal row.now.low) ∷ separator space
-        ∷ field number (decimal row.now.high_round) ∷ separator space ∷ field number (signed_decimal row.now.high)
-        ∷ separator feed ∷ [])) result }
-    ensures cause { HasCause (O.faults out.old) (O.faults out.new) result }
-{
-    put_traced(row.low_round, row.low, b' ', out)?;
-    put_traced(row.high_round, row.high, b'\n', out)
-}
-
-/// An end and the round that it comes from.
-#[tactic(auto, using(crate::proofs::Written::first_field, crate::proofs::Written::then_field, crate::proofs::Written::last_field))]
-fn put_traced<O: Sink>(round: u32, total: i128, end: u8, out: &mut O) -> Result<(), WriteFault>
-    ensures text { Writes (O.written out.old) (O.written out.new)
-        (items_text (field number (decimal round) ∷ separator space ∷ field number (signed_decimal total)
-        ∷ separator end ∷ [])) result }
-    ensures cause { HasCause (O.faults out.old) (O.faults out.new) result }
-{
-    put_whole(round as u64, b' ', out)?;
-    put_signed(total, end, out)
+    let items = [
+        Item::Word(b"trace"),
+        Item::Whole(row.round as u64, b' '),
+        Item::Whole(row.low_round as u64, b' '),
+        Item::Signed(row.low, b' '),
+        Item::Whole(row.high_round as u64, b' '),
+        Item::Signed(row.high, b'\n'),
+    ];
+    put_items(&items, out)
 }
 
 pub(crate) fn put_value_line<O: Sink>(
@@ -129,7 +102,10 @@ pub fn put_ends_line<O: Sink>(
         ∷ separator space ∷ field number (fraction_text high) ∷ separator feed ∷ [])) result }
     ensures cause { HasCause (O.faults out.old) (O.faults out.new) result }
 {
-    put_field(word, b' ', out)?;
-    put_fraction(low, b' ', out)?;
-    put_fraction(high, b'\n', out)
+    let items = [
+        Item::Word(word),
+        Item::Fraction(low, b' '),
+        Item::Fraction(high, b'\n'),
+    ];
+    put_items(&items, out)
 }

@@ -1,5 +1,5 @@
 //! A field of the text, and its separator.
-ghost use Rattle.std.specs.Prelude.{◌<◌, length};
+ghost use Rattle.std.specs.Prelude.{◌<◌};
 ghost use Rattle.std.specs.Fmt.{decimal, signed_decimal};
 ghost use Rattle.def_outside.specs.Cause.{HasCause};
 ghost use Rattle.def_fraction.specs.Text.{fraction_text};
@@ -15,33 +15,17 @@ use xg_io::{Sink, WriteFault, write_all};
 const SHORT: usize = 64;
 
 /// Any bytes.
+#[tactic(auto, using(xg_io::proofs::Pieces::prefix_first, xg_io::proofs::Pieces::then_rest), unfolding(crate::specs::Writes::field_text))]
 pub(crate) fn put_field<O: Sink>(field: &[u8], separator: u8, out: &mut O) -> Result<(), WriteFault>
     ensures text { Writes (O.written out.old) (O.written out.new) (field_text field.now separator) result }
     ensures cause { HasCause (O.faults out.old) (O.faults out.new) result }
 {
-    if field.len() < SHORT {
-        put_at_once(field, separator, out)
-    } else {
-        put_in_turn(field, separator, out)
-    }
-}
-
-fn put_at_once<O: Sink>(field: &[u8], separator: u8, out: &mut O) -> Result<(), WriteFault>
-    requires { length field.now < SHORT }
-    ensures text { Writes (O.written out.old) (O.written out.new) (field_text field.now separator) result }
-    ensures cause { HasCause (O.faults out.old) (O.faults out.new) result }
-{
     let count = field.len();
-    let mut bytes = [separator; SHORT];
-    bytes[..count].copy_from_slice(field);
-    write_all(out, &bytes[..count + 1])
-}
-
-#[tactic(auto, using(xg_io::proofs::Pieces::prefix_first, xg_io::proofs::Pieces::then_rest), unfolding(crate::specs::Writes::field_text))]
-fn put_in_turn<O: Sink>(field: &[u8], separator: u8, out: &mut O) -> Result<(), WriteFault>
-    ensures text { Writes (O.written out.old) (O.written out.new) (field_text field.now separator) result }
-    ensures cause { HasCause (O.faults out.old) (O.faults out.new) result }
-{
+    if count < SHORT {
+        let mut bytes = [separator; SHORT];
+        bytes[..count].copy_from_slice(field);
+        return write_all(out, &bytes[..count + 1]);
+    }
     write_all(out, field)?;
     write_all(out, &[separator])
 }

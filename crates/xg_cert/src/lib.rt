@@ -5,6 +5,7 @@ mod bounds;
 mod cert;
 mod cert_lines;
 mod fields;
+mod items;
 mod lines;
 mod lists;
 mod printed;

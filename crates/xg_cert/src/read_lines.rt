@@ -6,12 +6,11 @@ ghost use Rattle.def_tree.specs.Rules.{most_nodes};
 ghost use Rattle.def_cert_text.specs.Fields.{space, feed, number};
 ghost use Rattle.def_cert_text.specs.Formats.{and_then, fixed_field, fraction_field, whole_field};
 ghost use Rattle.def_cert_text.specs.CertText.{after_word, size_line, unit_line, mass_line, payoff_lines, asked_line};
-ghost use Rattle.def_cert_text.specs.CertText.{head_lines_of, line_of_round, value_line, bracket_line, second_line};
-ghost use Rattle.def_cert_text.specs.declared.version.TextVersion.TheVariants as versions;
+ghost use Rattle.def_cert_text.specs.CertText.{head_lines_of, line_of_round, value_line};
 ghost use Rattle.def_cert_verdict.specs.Ranges.{most_printed};
 ghost use Rattle.xg_cert_fields.specs.Reading.{GivesValue};
 ghost use Rattle.xg_outcome.specs.Outcome.{head_of};
-ghost use Rattle.xg_cert.specs.ReadCert.{bracket_between, set_reply_of, asked_of};
+ghost use Rattle.xg_cert.specs.ReadCert.{set_reply_of, asked_of};
 
 use def_cert_text::{CertFault, TextVersion};
 use def_reply::TraceLine;
@@ -85,7 +84,7 @@ fn mass_line(reader: &mut FieldReader<'_>) -> Result<u64, CertFault>
     reader.whole(0, MOST_MASS, b'\n')
 }
 
-/// The unit with the sum, and the mass.
+/// The unit with the sum, and the mass. In version 2 the sum has a line of its own.
 fn payoff_lines(
     reader: &mut FieldReader<'_>,
     version: TextVersion,
@@ -95,34 +94,20 @@ fn payoff_lines(
     ensures total { reader.new.total ≡ reader.old.total }
 {
     match version {
-        TextVersion::One => payoffs_of_one(reader),
-        TextVersion::Two => payoffs_of_two(reader),
+        TextVersion::One => {
+            let unit = unit_line(reader)?;
+            let mass = mass_line(reader)?;
+            Ok((unit, mass))
+        }
+        TextVersion::Two => {
+            reader.word(b"unit", b' ')?;
+            let unit = reader.whole(1, MOST_PART as u64, b'\n')?;
+            let mass = mass_line(reader)?;
+            reader.word(b"sum", b' ')?;
+            let sum = reader.small(b'\n')?;
+            Ok(((unit, sum), mass))
+        }
     }
-}
-
-/// The same of version 1, where the sum stands behind the unit.
-fn payoffs_of_one(reader: &mut FieldReader<'_>) -> Result<((u64, Frac), u64), CertFault>
-    ensures exact { GivesValue (λ p. p) result reader.new.left
-        ((payoff_lines versions.One).read reader.old.total reader.old.left) }
-    ensures total { reader.new.total ≡ reader.old.total }
-{
-    let unit = unit_line(reader)?;
-    let mass = mass_line(reader)?;
-    Ok((unit, mass))
-}
-
-/// The same of version 2, where the sum has a line of its own.
-fn payoffs_of_two(reader: &mut FieldReader<'_>) -> Result<((u64, Frac), u64), CertFault>
-    ensures exact { GivesValue (λ p. p) result reader.new.left
-        ((payoff_lines versions.Two).read reader.old.total reader.old.left) }
-    ensures total { reader.new.total ≡ reader.old.total }
-{
-    reader.word(b"unit", b' ')?;
-    let unit = reader.whole(1, MOST_PART as u64, b'\n')?;
-    let mass = mass_line(reader)?;
-    reader.word(b"sum", b' ')?;
-    let sum = reader.small(b'\n')?;
-    Ok(((unit, sum), mass))
 }
 
 fn asked_line(reader: &mut FieldReader<'_>) -> Result<Asked, CertFault>
@@ -220,24 +205,11 @@ pub(crate) fn value_line(reader: &mut FieldReader<'_>, set: u32) -> Result<Value
     Ok(ValueLine { value, choice })
 }
 
-pub(crate) fn bracket_line(reader: &mut FieldReader<'_>) -> Result<(Ratio, Ratio), CertFault>
-    ensures exact { GivesValue (λ p. p) result reader.new.left (bracket_line.read reader.old.total reader.old.left) }
-    ensures total { reader.new.total ≡ reader.old.total }
-{
-    ends_line(reader, b"bracket")
-}
-
-pub(crate) fn second_line(reader: &mut FieldReader<'_>) -> Result<(Ratio, Ratio), CertFault>
-    ensures exact { GivesValue bracket_between result reader.new.left
-        (second_line.read reader.old.total reader.old.left) }
-    ensures total { reader.new.total ≡ reader.old.total }
-{
-    let ends = ends_line(reader, b"second")?;
-    Ok(ends)
-}
-
 /// A word, and both ends of a bracket.
-fn ends_line(reader: &mut FieldReader<'_>, word: &[u8]) -> Result<(Ratio, Ratio), CertFault>
+pub(crate) fn ends_line(
+    reader: &mut FieldReader<'_>,
+    word: &[u8],
+) -> Result<(Ratio, Ratio), CertFault>
     ensures exact { GivesValue (λ p. p) result reader.new.left
         ((after_word word.now
         (and_then (fraction_field most_printed space) (λ _. fraction_field most_printed feed))).read

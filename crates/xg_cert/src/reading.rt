@@ -1,22 +1,21 @@
 //! Reading a text.
-ghost use Rattle.std.specs.Prelude.{◌≡◌, ◌≤◌, ◌&&◌, Ok, Err, IfOk, nat_lt};
+ghost use Rattle.std.specs.Prelude.{◌≡◌, ◌≤◌, Ok, Err, IfOk};
 ghost use Rattle.def_tree.specs.Rules.{most_nodes};
-ghost use Rattle.def_cert_text.specs.Versions.{VersionedCertificate, VersionedFits, has_second};
+ghost use Rattle.def_cert_text.specs.Versions.{VersionedCertificate, VersionedFits};
 ghost use Rattle.def_cert_text.specs.declared.fault.CertFault as fault;
-ghost use Rattle.def_cert_text.specs.Formats.{where_asked};
-ghost use Rattle.def_cert_text.specs.CertText.{bounds_lines, last_lines, plan_lines, reply_lines, second_line};
+ghost use Rattle.def_cert_text.specs.CertText.{bounds_lines, last_lines, plan_lines, reply_lines};
 ghost use Rattle.def_cert_text.specs.CertText.{versioned_certificate, versioned_in, versioned_text};
 ghost use Rattle.def_cert_text.specs.FirstFault.{FirstVersionedFault};
 ghost use Rattle.xg_cert.specs.declared.refused.CertRefused.TheVariants as refused;
 ghost use Rattle.xg_cert.specs.Answers.{AnswersCertificate, AnswersAs, GivesValueFor};
 ghost use Rattle.xg_outcome.specs.Outcome.{head_of};
-ghost use Rattle.xg_cert.specs.ReadCert.{IsReadHead, bounds_of, bounds_where_given, certificate_read};
+ghost use Rattle.xg_cert.specs.ReadCert.{IsReadHead, bounds_of, certificate_read};
 ghost use Rattle.xg_cert.specs.ReadCert.{second_where_given};
 ghost use Rattle.xg_cert_fields.specs.Reading.{GivesValue};
 
 use crate::cert::{BoundsLines, Cert, CertLines};
 use crate::printed::{PlanLines, ReplyLines};
-use crate::read_lines::{bracket_line, head_lines, second_line};
+use crate::read_lines::{ends_line, head_lines};
 use crate::read_lists::{trace_lines, value_lines, weights_lines};
 use crate::refused::CertRefused;
 use def_cert_text::{CertFault, TextVersion};
@@ -72,7 +71,11 @@ fn whole_certificate(reader: &mut FieldReader<'_>, alloc: Global) -> Result<Cert
     reader.word(b"XGCERT", b' ')?;
     let version = reader.version()?;
     let head = head_lines(reader, version)?;
-    let bounds = bounds_where_asked(reader, alloc, &head)?;
+    let bounds = if head.rounds == 0 {
+        None
+    } else {
+        Some(bounds_lines(reader, alloc, &head)?)
+    };
     match last_lines(reader, version, &head) {
         Ok(second) => Ok(CertLines {
             version,
@@ -87,25 +90,6 @@ fn whole_certificate(reader: &mut FieldReader<'_>, alloc: Global) -> Result<Cert
     }
 }
 
-/// All from the trace to the bracket, which is there where a round was asked.
-fn bounds_where_asked(
-    reader: &mut FieldReader<'_>,
-    alloc: Global,
-    head: &Head,
-) -> Result<Option<BoundsLines>, CertRefused>
-    requires { IsReadHead head.now }
-    ensures exact { GivesValueFor bounds_where_given result reader.new.left
-        ((where_asked (nat_lt 0 head.now.rounds) (bounds_lines (head_of head.now))).read
-        reader.old.total reader.old.left) }
-    ensures total { reader.new.total ≡ reader.old.total }
-{
-    if head.rounds == 0 {
-        return Ok(None);
-    }
-    let bounds = bounds_lines(reader, alloc, head)?;
-    Ok(Some(bounds))
-}
-
 /// All below the bracket: that of player two's own payoff, where it is there, and the last line.
 fn last_lines(
     reader: &mut FieldReader<'_>,
@@ -116,29 +100,16 @@ fn last_lines(
         ((last_lines version (head_of head.now)).read reader.old.total reader.old.left) }
     ensures total { reader.new.total ≡ reader.old.total }
 {
-    let second = second_where_asked(reader, version, head)?;
+    let second = if version == TextVersion::One || head.rounds == 0 {
+        None
+    } else {
+        Some(ends_line(reader, b"second")?)
+    };
     reader.word(b"end", b'\n')?;
     Ok(second)
 }
 
-/// The bracket of player two's own payoff, which is there in version 2 where a round was asked.
-fn second_where_asked(
-    reader: &mut FieldReader<'_>,
-    version: TextVersion,
-    head: &Head,
-) -> Result<Option<(Ratio, Ratio)>, CertFault>
-    ensures exact { GivesValue second_where_given result reader.new.left
-        ((where_asked (has_second version && nat_lt 0 head.now.rounds) second_line).read
-        reader.old.total reader.old.left) }
-    ensures total { reader.new.total ≡ reader.old.total }
-{
-    if version == TextVersion::One || head.rounds == 0 {
-        return Ok(None);
-    }
-    let second = second_line(reader)?;
-    Ok(Some(second))
-}
-
+/// All from the trace to the bracket.
 fn bounds_lines(
     reader: &mut FieldReader<'_>,
     alloc: Global,
@@ -154,7 +125,7 @@ fn bounds_lines(
     let reply_two = reply_lines(reader, alloc, b"2", head.sets.1)?;
     let plan_two = plan_lines(reader, alloc, b"2", head.sets.1)?;
     let reply_one = reply_lines(reader, alloc, b"1", head.sets.0)?;
-    let (low, high) = bracket_line(reader)?;
+    let (low, high) = ends_line(reader, b"bracket")?;
     Ok(BoundsLines {
         trace,
         plan_one,

@@ -1,13 +1,11 @@
 //! The whole text.
-ghost use Rattle.std.specs.Prelude.{◌≡◌, ◌++◌, OnOk, OnErr, IfSome, [], ◌∷◌};
-ghost use Rattle.std.specs.Fmt.{signed_decimal};
+ghost use Rattle.std.specs.Prelude.{◌≡◌, OnOk, OnErr, IfSome};
 ghost use Rattle.std.specs.Io.KnownBytes.{append_known};
 ghost use Rattle.std.specs.Option.{option_map};
 ghost use Rattle.def_outside.specs.Cause.{HasCause};
 ghost use Rattle.def_outside.specs.Sinks.{AppendsPrefix, Writes};
 ghost use Rattle.def_cert_accepted.specs.OfOutcome.{certificate_of};
-ghost use Rattle.def_cert_text.specs.Fields.{space, feed, fixed_word, number, field, separator, items_text};
-ghost use Rattle.def_cert_text.specs.CertText.{last_text, second_text, versioned_text};
+ghost use Rattle.def_cert_text.specs.CertText.{second_text, versioned_text};
 ghost use Rattle.def_cert_text.specs.PlusText.{plus_text};
 ghost use Rattle.def_cert_versions.specs.Upgrade.{IsUpgradable};
 ghost use Rattle.def_cert_versions.specs.Verdict.{in_version_two, second_bracket, upgraded};
@@ -20,8 +18,8 @@ ghost use Rattle.xg_cert.specs.Writable.{end_text, ends_text, plan_text, reply_t
 use crate::bounds::{Bounds, FormBounds};
 use crate::cert::Cert;
 use crate::cert_lines::{FirstLine, put_asked, put_ends_line, put_first_line, put_last_line};
-use crate::fields::{put_field, put_signed};
-use crate::lines::{put_head, put_named};
+use crate::items::{Item, put_items};
+use crate::lines::put_head;
 use crate::lists::{put_trace, put_values, put_weights};
 use crate::second::second_end;
 use def_cert_text::TextVersion;
@@ -31,6 +29,7 @@ use xg_outcome::{Head, Outcome};
 use xg_seq::SeqForm;
 
 /// A plan of the player that the digit names.
+#[tactic(auto, using(crate::proofs::Written::items_first, crate::proofs::Written::then_items))]
 fn put_plan<B: Bounds, O: Sink>(
     bounds: &B,
     player: Player,
@@ -42,12 +41,13 @@ fn put_plan<B: Bounds, O: Sink>(
         (plan_text digit.now (plan_in player (B.printed bounds.now))) result }
     ensures cause { HasCause (O.faults out.old) (O.faults out.new) result }
 {
-    put_field(b"plan", b' ', out)?;
-    put_named(digit, bounds.root(player), b'\n', out)?;
+    let root = Item::Whole(bounds.root(player), b'\n');
+    put_items(&[Item::Word(b"plan"), Item::Word(digit), root], out)?;
     put_weights(bounds, player, out)
 }
 
 /// A reply of the player that the digit names.
+#[tactic(auto, using(crate::proofs::Written::items_first, crate::proofs::Written::then_items))]
 fn put_reply<B: Bounds, O: Sink>(
     bounds: &B,
     player: Player,
@@ -59,20 +59,9 @@ fn put_reply<B: Bounds, O: Sink>(
         (reply_text digit.now (reply_in player (B.printed bounds.now))) result }
     ensures cause { HasCause (O.faults out.old) (O.faults out.new) result }
 {
-    put_field(b"reply", b' ', out)?;
-    put_total(digit, bounds.total(player), out)?;
+    let total = Item::Signed(bounds.total(player), b'\n');
+    put_items(&[Item::Word(b"reply"), Item::Word(digit), total], out)?;
     put_values(bounds, player, out)
-}
-
-#[tactic(auto, using(crate::proofs::Written::first_field, crate::proofs::Written::then_field, crate::proofs::Written::last_field))]
-fn put_total<O: Sink>(digit: &[u8], total: i128, out: &mut O) -> Result<(), WriteFault>
-    ensures text { Writes (O.written out.old) (O.written out.new)
-        (items_text (field fixed_word digit.now ∷ separator space ∷ field number (signed_decimal total)
-        ∷ separator feed ∷ [])) result }
-    ensures cause { HasCause (O.faults out.old) (O.faults out.new) result }
-{
-    put_field(digit, b' ', out)?;
-    put_signed(total, b'\n', out)
 }
 
 /// A plan of the player that the first digit names, and the reply of the other player.
@@ -149,24 +138,6 @@ fn put_above<O: Sink>(first: FirstLine, head: &Head, out: &mut O) -> Result<(), 
     put_asked(head, out)
 }
 
-#[tactic(auto, using(xg_io::proofs::Pieces::then_rest))]
-fn put_pieces<B: Bounds, O: Sink>(
-    first: FirstLine,
-    head: &Head,
-    bounds: Option<&B>,
-    out: &mut O,
-) -> Result<(), WriteFault>
-    requires { IfSome bounds (λ b. B.can_write b.now × LeavesSecond (head_of head.now) (B.printed b.now)) }
-    ensures text { Writes (O.written out.old) (O.written out.new)
-        (above_text first (head_of head.now)
-        ++ (below_text head.now.sum (option_map (λ b. B.printed b.now) bounds.entry) ++ last_text)) result }
-    ensures cause { HasCause (O.faults out.old) (O.faults out.new) result }
-{
-    put_above(first, head, out)?;
-    put_below(head, bounds, out)?;
-    put_last_line(out)
-}
-
 fn put_text<B: Bounds, O: Sink>(
     first: FirstLine,
     head: &Head,
@@ -181,7 +152,9 @@ fn put_text<B: Bounds, O: Sink>(
         }))) result }
     ensures cause { HasCause (O.faults out.old) (O.faults out.new) result }
 {
-    put_pieces(first, head, bounds, out)
+    put_above(first, head, out)?;
+    put_below(head, bounds, out)?;
+    put_last_line(out)
 }
 
 fn put_outcome<O: Sink>(

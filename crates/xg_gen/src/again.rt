@@ -1,7 +1,6 @@
 //! The sets and the outcomes that many entries mention.
 ghost use Rattle.std.specs.Prelude.{◌≡◌, ◌≤◌, IfOk};
 ghost use Rattle.def_file.specs.Content.{OutcomeMention};
-ghost use Rattle.def_canon.specs.Poker as def;
 ghost use Rattle.def_tree.specs.declared.Player.{Player as Mover};
 ghost use Rattle.xg_gen.specs.Again.{AreOutcomes, AreOwnSets, AreWins};
 ghost use Rattle.xg_gen.specs.Described.{mention_of_outcome};
@@ -63,26 +62,14 @@ impl Outcomes {
         ensures { IfOk result AreOutcomes }
     {
         Ok(Outcomes {
-            ones: winning_one(alloc)?,
-            twos: winning_two(alloc)?,
+            ones: Wins {
+                one: wins_one(alloc, Player::One)?,
+                two: wins_one(alloc, Player::Two)?,
+            },
+            twos: Wins {
+                one: wins_two(alloc, Player::One)?,
+                two: wins_two(alloc, Player::Two)?,
+            },
         })
     }
-}
-
-fn winning_one(alloc: Global) -> Result<Wins, AllocError>
-    ensures { IfOk result (AreWins def.wins_one) }
-{
-    Ok(Wins {
-        one: wins_one(alloc, Player::One)?,
-        two: wins_one(alloc, Player::Two)?,
-    })
-}
-
-fn winning_two(alloc: Global) -> Result<Wins, AllocError>
-    ensures { IfOk result (AreWins def.wins_two) }
-{
-    Ok(Wins {
-        one: wins_two(alloc, Player::One)?,
-        two: wins_two(alloc, Player::Two)?,
-    })
 }

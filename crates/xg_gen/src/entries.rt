@@ -1,12 +1,12 @@
 //! The entries of one-card poker, as a maker takes them.
 ghost use Rattle.std.specs.Prelude.{◌≡◌, ◌≤◌, ◌<◌, [], ◌∷◌, OnOk, Ok, IsTrue};
 ghost use Rattle.def_fraction.specs.Fraction.{most};
-ghost use Rattle.def_file.specs.Content.{chance_record, player_record, leaf_record, no_outcome_mention, no_set_mention};
+ghost use Rattle.def_file.specs.Content.{player_record, leaf_record, no_outcome_mention, no_set_mention};
 ghost use Rattle.def_file.specs.Faults.{has_set};
 ghost use Rattle.def_canon.specs.Poker as def;
 ghost use Rattle.xg_record.specs.Entry.{entry_seen};
 ghost use Rattle.xg_gen.specs.Again.{AreOutcomes, AreOwnSets};
-ghost use Rattle.xg_gen.specs.Described.{mention_of_outcome, mention_of_set};
+ghost use Rattle.xg_gen.specs.Described.{mention_of_outcome, mention_of_set, move_record};
 ghost use Rattle.xg_gen.specs.Taken.{GainsEntries, Takes};
 
 use crate::again::{Outcomes, OwnSets};
@@ -62,7 +62,7 @@ fn put_opening(
     requires takes { Takes maker.old (player_record 1 (def.opening_set i) ∷ []) }
     ensures { OnOk result (GainsEntries maker.old maker.new (player_record 1 (def.opening_set i) ∷ [])) }
 {
-    put_move(maker, alloc, 1, &own.opening)
+    put_move(maker, alloc, EntryKind::Personal, 1, &own.opening)
 }
 
 fn put_after_check(maker: &mut GameMaker, alloc: Global, j: u32) -> Result<(), AllocError>
@@ -71,7 +71,7 @@ fn put_after_check(maker: &mut GameMaker, alloc: Global, j: u32) -> Result<(), A
     ensures { OnOk result (GainsEntries maker.old maker.new (player_record 2 (def.after_check j) ∷ [])) }
 {
     let set = after_check(alloc, j)?;
-    put_move(maker, alloc, 2, &set)
+    put_move(maker, alloc, EntryKind::Personal, 2, &set)
 }
 
 /// Two checks.
@@ -185,40 +185,26 @@ fn put_facing_bet(
     ensures { OnOk result (GainsEntries maker.old maker.new
         (def.facing_bet player (mention_of_set set.now) (def.wins_one folded) (def.wins_two called))) }
 {
-    put_move(maker, alloc, player, set)?;
+    put_move(maker, alloc, EntryKind::Personal, player, set)?;
     put_win_of_one(maker, alloc, folded, outcomes)?;
     put_win_of_two(maker, alloc, called, outcomes)
 }
 
-/// Chance moves.
-pub(crate) fn put_deal(
+/// Chance or a player moves.
+pub(crate) fn put_move(
     maker: &mut GameMaker,
     alloc: Global,
-    set: &DescribedSet,
-) -> Result<(), AllocError>
-    requires from_one { 1 ≤ set.now.number }
-    requires set { set.now.number ≤ most }
-    requires takes { Takes maker.old (chance_record (mention_of_set set.now) ∷ []) }
-    ensures { OnOk result (GainsEntries maker.old maker.new (chance_record (mention_of_set set.now) ∷ [])) }
-{
-    let name = plain(alloc, b"")?;
-    put_entry(maker, &inner(EntryKind::Chance, &name, 0, set))
-}
-
-/// A player moves.
-fn put_move(
-    maker: &mut GameMaker,
-    alloc: Global,
+    kind: EntryKind,
     player: u64,
     set: &DescribedSet,
 ) -> Result<(), AllocError>
     requires from_one { 1 ≤ set.now.number }
     requires set { set.now.number ≤ most }
-    requires takes { Takes maker.old (player_record player (mention_of_set set.now) ∷ []) }
-    ensures { OnOk result (GainsEntries maker.old maker.new (player_record player (mention_of_set set.now) ∷ [])) }
+    requires takes { Takes maker.old (move_record kind player (mention_of_set set.now) ∷ []) }
+    ensures { OnOk result (GainsEntries maker.old maker.new (move_record kind player (mention_of_set set.now) ∷ [])) }
 {
     let name = plain(alloc, b"")?;
-    put_entry(maker, &inner(EntryKind::Personal, &name, player, set))
+    put_entry(maker, &inner(kind, &name, player, set))
 }
 
 /// The play is over.

@@ -2,9 +2,9 @@
 ghost use Rattle.std.specs.Prelude.{◌≢◌, ◌-◌, ◌≤◌, [], ◌∷◌, length, slice_index_or};
 ghost use Rattle.def_outside.specs.Cause.{HasCause};
 ghost use Rattle.def_file.specs.Content.{sets_of_kind};
-ghost use Rattle.def_file.specs.Faults.{outcome_at, set_at};
+ghost use Rattle.def_file.specs.Faults.{set_at};
 ghost use Rattle.def_file.specs.Game.{GoesWith};
-ghost use Rattle.def_canon.specs.Canon.{action_pieces, chance_pieces, described_outcome, each, letter, list_pieces};
+ghost use Rattle.def_canon.specs.Canon.{action_pieces, chance_pieces, each, letter};
 ghost use Rattle.def_canon.specs.Canon.{node_pieces, outcome_pieces, payoffs_pieces, place_pieces, player_pieces};
 ghost use Rattle.def_canon.specs.Canon.{set_pieces, text_of_pieces};
 ghost use Rattle.def_outside.specs.Sinks.{Writes};
@@ -76,7 +76,7 @@ fn put_place<O: Sink>(game: &Game, kind: Kind, set: u32, out: &mut O) -> Result<
     }
 }
 
-/// The whole description of a set.
+/// The whole description of a set, with its actions in braces.
 fn put_set<O: Sink>(game: &Game, kind: Kind, set: u32, out: &mut O) -> Result<(), WriteFault>
     requires kind { kind ≢ Kind.Leaf }
     requires from_one { 1 ≤ set }
@@ -87,18 +87,6 @@ fn put_set<O: Sink>(game: &Game, kind: Kind, set: u32, out: &mut O) -> Result<()
 {
     put_number(game.set_number(kind, set), out)?;
     put_name(game.set_name(kind, set), out)?;
-    put_list(game, kind, set, out)
-}
-
-/// The actions of a set in braces.
-fn put_list<O: Sink>(game: &Game, kind: Kind, set: u32, out: &mut O) -> Result<(), WriteFault>
-    requires kind { kind ≢ Kind.Leaf }
-    requires from_one { 1 ≤ set }
-    requires there { set ≤ length (sets_of_kind kind game.now.sets) }
-    ensures text { let entry = set_at (sets_of_kind kind game.now.sets) (set - 1) in
-        Writes (O.written out.old) (O.written out.new) (text_of_pieces (list_pieces kind entry.actions)) result }
-    ensures cause { HasCause (O.faults out.old) (O.faults out.new) result }
-{
     put_open(out)?;
     put_actions(game, kind, set, out)?;
     put_close(out)
@@ -120,7 +108,8 @@ fn put_actions<O: Sink>(game: &Game, kind: Kind, set: u32, out: &mut O) -> Resul
     Ok(())
 }
 
-/// An action of a set.
+/// An action of a set, with its probability where chance moves.
+#[tactic(auto, using(crate::proofs::Written::nothing, crate::proofs::Actions::chance_at), unfolding(def_canon::specs::Canon::chance_pieces))]
 fn put_action<O: Sink>(
     game: &Game,
     kind: Kind,
@@ -140,29 +129,6 @@ fn put_action<O: Sink>(
     ensures cause { HasCause (O.faults out.old) (O.faults out.new) result }
 {
     put_text(game.action_name(kind, set, action), out)?;
-    put_chance(game, kind, set, action, out)
-}
-
-/// The probability of an action, where chance moves.
-#[tactic(auto, using(crate::proofs::Written::nothing, crate::proofs::Actions::chance_at), unfolding(def_canon::specs::Canon::chance_pieces))]
-fn put_chance<O: Sink>(
-    game: &Game,
-    kind: Kind,
-    set: u32,
-    action: u32,
-    out: &mut O,
-) -> Result<(), WriteFault>
-    requires kind { kind ≢ Kind.Leaf }
-    requires from_one { 1 ≤ set }
-    requires there { set ≤ length (sets_of_kind kind game.now.sets) }
-    requires action_from_one { 1 ≤ action }
-    requires action_there { let entry = set_at (sets_of_kind kind game.now.sets) (set - 1) in
-        action ≤ length entry.actions }
-    ensures text { let entry = set_at (sets_of_kind kind game.now.sets) (set - 1) in
-        Writes (O.written out.old) (O.written out.new)
-        (text_of_pieces (chance_pieces kind (slice_index_or entry.actions (action - 1) no_action).chance)) result }
-    ensures cause { HasCause (O.faults out.old) (O.faults out.new) result }
-{
     match kind {
         Kind::Chance => put_fraction(game.chance(set, action), out),
         Kind::One | Kind::Two | Kind::Leaf => Ok(()),
@@ -180,17 +146,6 @@ fn put_outcome<O: Sink>(game: &Game, outcome: u32, out: &mut O) -> Result<(), Wr
     if outcome == 0 {
         return put_number(0, out);
     }
-    put_described(game, outcome, out)
-}
-
-/// The whole description of an outcome.
-fn put_described<O: Sink>(game: &Game, outcome: u32, out: &mut O) -> Result<(), WriteFault>
-    requires from_one { 1 ≤ outcome }
-    requires there { outcome ≤ length game.now.outcomes }
-    ensures text { Writes (O.written out.old) (O.written out.new)
-        (text_of_pieces (described_outcome (outcome_at game.now.outcomes (outcome - 1)))) result }
-    ensures cause { HasCause (O.faults out.old) (O.faults out.new) result }
-{
     put_number(game.outcome_number(outcome), out)?;
     put_name(game.outcome_name(outcome), out)?;
     put_payoffs(

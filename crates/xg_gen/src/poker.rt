@@ -7,11 +7,12 @@ ghost use Rattle.xg_gen.specs.Again.{AreOutcomes, AreOwnSets};
 ghost use Rattle.xg_gen.specs.Taken.{GainsEntries, Takes};
 
 use crate::again::{Outcomes, OwnSets};
-use crate::entries::{put_deal, put_hand};
+use crate::entries::{put_hand, put_move};
 use crate::mentions::{deal_one, deal_two};
 use crate::texts::{numbered, plain};
 use std::alloc::{AllocError, Global};
 use xg_game::{Game, GameMaker};
+use xg_record::EntryKind;
 
 /// One-card poker with `n` cards: both players put in 1 and get a card each, and then check, bet, fold or call.
 pub fn one_card_poker(alloc: Global, n: u32) -> Result<Game, AllocError>
@@ -53,7 +54,7 @@ fn put_deal_one(maker: &mut GameMaker, alloc: Global, n: u32) -> Result<(), Allo
     ensures { OnOk result (GainsEntries maker.old maker.new (chance_record (def.deal_one n) ∷ [])) }
 {
     let set = deal_one(alloc, n)?;
-    put_deal(maker, alloc, &set)
+    put_move(maker, alloc, EntryKind::Chance, 0, &set)
 }
 
 /// Each card for player one, and all that follows.
@@ -106,7 +107,7 @@ fn put_deal_two(maker: &mut GameMaker, alloc: Global, n: u32, i: u32) -> Result<
     ensures { OnOk result (GainsEntries maker.old maker.new (chance_record (def.deal_two n i) ∷ [])) }
 {
     let set = deal_two(alloc, n, i)?;
-    put_deal(maker, alloc, &set)
+    put_move(maker, alloc, EntryKind::Chance, 0, &set)
 }
 
 /// The play of player one's card `i` against each other card.

@@ -5,7 +5,7 @@ ghost use Rattle.std.specs.Io.KnownBytes.{append_known};
 ghost use Rattle.def_outside.specs.Cause.{HasCause};
 ghost use Rattle.def_outside.specs.Sinks.{AppendsPrefix, Writes};
 ghost use Rattle.def_tree.specs.Tree.{prefix};
-ghost use Rattle.def_canon.specs.Canon.{canon, game_pieces, lines_pieces, prologue_pieces, text_of_pieces};
+ghost use Rattle.def_canon.specs.Canon.{canon, lines_pieces, prologue_pieces, text_of_pieces};
 
 use crate::lines::put_node;
 use crate::tokens::{put_close, put_marker, put_open, put_text, put_text_line};
@@ -27,16 +27,9 @@ fn put_game<O: Sink>(game: &Game, out: &mut O) -> Result<(), WriteFault>
     ensures text { Writes (O.written out.old) (O.written out.new) (canon game.now) result }
     ensures cause { HasCause (O.faults out.old) (O.faults out.new) result }
 {
-    put_pieces(game, out)?;
-    write_all(out, b"\n")
-}
-
-fn put_pieces<O: Sink>(game: &Game, out: &mut O) -> Result<(), WriteFault>
-    ensures text { Writes (O.written out.old) (O.written out.new) (text_of_pieces (game_pieces game.now)) result }
-    ensures cause { HasCause (O.faults out.old) (O.faults out.new) result }
-{
     put_prologue(game, out)?;
-    put_lines(game, out)
+    put_lines(game, out)?;
+    write_all(out, b"\n")
 }
 
 /// The first two lines, but for the line feed behind them.

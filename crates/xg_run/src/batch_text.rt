@@ -4,8 +4,6 @@ ghost use Rattle.std.specs.List.{AllZip};
 ghost use Rattle.def_outside.specs.Cause.{HasCause};
 ghost use Rattle.def_outside.specs.Sinks.{Writes};
 ghost use Rattle.def_program.specs.BatchText.{file_line};
-ghost use Rattle.def_program.specs.Text.{line_feed};
-ghost use Rattle.std.specs.Fmt.{decimal};
 ghost use Rattle.xg_run.specs.Batches.{CanBeShown, CanWritePart, HasOutcome, IsTextPart, IsTextOfEngine, part_bytes};
 ghost use Rattle.xg_run.specs.Batches.{parts_bytes};
 
@@ -103,7 +101,10 @@ fn write_part<O: Sink>(number: usize, part: &Part<'_>, out: &mut O) -> Result<()
     ensures cause { HasCause (O.faults out.old) (O.faults out.new) result }
 {
     write_file_line(number, out)?;
-    write_alone(part, out)
+    match part {
+        Part::Game(text) => text.write(out),
+        Part::Fault(line) => write_all(out, line.as_bytes()),
+    }
 }
 
 #[tactic(auto, using(xg_io::proofs::Pieces::prefix_first, xg_io::proofs::Pieces::then_rest))]
@@ -111,27 +112,8 @@ fn write_file_line<O: Sink>(number: usize, out: &mut O) -> Result<(), WriteFault
     ensures text { Writes (O.written out.old) (O.written out.new) (file_line number) result }
     ensures cause { HasCause (O.faults out.old) (O.faults out.new) result }
 {
-    write_all(out, b"file ")?;
-    write_number_line(number, out)
-}
-
-#[tactic(auto, using(xg_io::proofs::Pieces::prefix_first, xg_io::proofs::Pieces::then_rest))]
-fn write_number_line<O: Sink>(number: usize, out: &mut O) -> Result<(), WriteFault>
-    ensures text { Writes (O.written out.old) (O.written out.new) (decimal number ++ line_feed) result }
-    ensures cause { HasCause (O.faults out.old) (O.faults out.new) result }
-{
     let mut buffer = Buffer::new();
+    write_all(out, b"file ")?;
     write_all(out, buffer.format(number).as_bytes())?;
     write_all(out, b"\n")
-}
-
-fn write_alone<O: Sink>(part: &Part<'_>, out: &mut O) -> Result<(), WriteFault>
-    requires { CanWritePart part.now }
-    ensures text { Writes (O.written out.old) (O.written out.new) (part_bytes part.now) result }
-    ensures cause { HasCause (O.faults out.old) (O.faults out.new) result }
-{
-    match part {
-        Part::Game(text) => text.write(out),
-        Part::Fault(line) => write_all(out, line.as_bytes()),
-    }
 }

@@ -1,16 +1,24 @@
 use Rattle.std.proofs.Common.{arith}
-use Rattle.def_canon.specs.Canon.{set_pieces}
+use Rattle.def_canon.specs.Canon.{list_pieces, set_pieces}
 use Rattle.xg_gen.proofs.Written.{first_part, first_piece, then_part, then_piece}
 use Rattle.xg_gen.proofs.lines.put_set.Goals as goal
 
 pub returns-in_err-put_number-clause-text : goal.returns-in_err-put_number-clause-text
-unfolding set_pieces
+unfolding list_pieces set_pieces
 returns-in_err-put_number-clause-text g c = grind (arith, first_part, first_piece, then_part, then_piece)
 
 pub returns-in_err-put_name-clause-text : goal.returns-in_err-put_name-clause-text
-unfolding set_pieces
+unfolding list_pieces set_pieces
 returns-in_err-put_name-clause-text g c = grind (arith, first_part, first_piece, then_part, then_piece)
 
+pub returns-in_err-put_open-clause-text : goal.returns-in_err-put_open-clause-text
+unfolding list_pieces set_pieces
+returns-in_err-put_open-clause-text g c = grind (arith, first_part, first_piece, then_part, then_piece)
+
+pub returns-in_err-put_actions-clause-text : goal.returns-in_err-put_actions-clause-text
+unfolding list_pieces set_pieces
+returns-in_err-put_actions-clause-text g c = grind (arith, first_part, first_piece, then_part, then_piece)
+
 pub returns-clause-text : goal.returns-clause-text
-unfolding set_pieces
+unfolding list_pieces set_pieces
 returns-clause-text g c = grind (arith, first_part, first_piece, then_part, then_piece)
