@@ -2,15 +2,17 @@
 
 An edit is a wrong body in place of a right one. It is tried on the functions whose bodies it changes: where one of them
 isn't proved, the crate isn't. What they call keeps its contract and gets a hole for its proof, as a function's proof
-rests on the contracts alone of those that it calls. Where this doesn't decide, or the edit stands in no function, the
-whole crate is checked with it. The judgement is the toolchain's own, which this module calls as `rt must-fail` does; it
-needs the libraries that a proof of the crates below left.
+rests on the contracts alone of those that it calls; edits of several functions are tried by one check (edit_groups).
+Where this doesn't decide, or the edit stands in no function, the whole crate is checked with it. The judgement is the
+toolchain's own, which this module calls as `rt must-fail` does; it needs the libraries that a proof of the crates below
+left.
 
 What was refused is kept, by the sum of all that a judgement depends on, in a folder xg_solve-edits below the user's
 cache; what it doesn't hold is tried.
 """
 import dataclasses
 import hashlib
+import json
 import os
 import pathlib
 import re
@@ -22,15 +24,13 @@ import tempfile
 import threading
 import time
 
+import edit_groups
+import edited
 import toolchain
 
 ROOT = pathlib.Path(__file__).resolve().parent.parent.parent
 INTERRUPTS = (signal.SIGINT, signal.SIGTERM, signal.SIGHUP)
-LINE = re.compile(r"^(file|old|new): ?(.*)", re.MULTILINE)
 NAME = re.compile(r"[A-Za-z0-9_-][A-Za-z0-9_.-]*\.edit")
-# The heads of items, as the toolchain lays files out: a method stands four columns in.
-FUNCTION = re.compile(r"^(|    )(?:pub(?:\(.*?\))? )?(?:const |unsafe )*fn (\w+)", re.MULTILINE)
-ITEM = re.compile(r"(?:pub(?:\(.*?\))? )?(?:unsafe )?(impl|struct|enum|const|static|type|trait|mod|use|union)\b(.*)")
 # The files of a function's proof, and a proof that is a hole.
 PROOF = ("Proof", "Invariants", "Answers")
 HOLE = """use Rattle.{crate}.proofs.{path}.Statement.{{statement}}
@@ -56,100 +56,15 @@ def by_crate(folder):
     return found
 
 
-def without_parameters(text):
-    """A head without what stands in angle brackets."""
-    kept, depth = [], 0
-    for it in text.replace("->", ""):
-        depth += (it == "<") - (it == ">")
-        if not depth and it != ">":
-            kept.append(it)
-    return "".join(kept)
-
-
-def name_of_impl(head):
-    """How a check names an impl: by its type, or the type's name and the trait's. None where that has further words."""
-    of, _, target = without_parameters(head.partition("{")[0]).partition(" for ")
-    words = [it.partition(" where")[0].strip().rpartition("::")[2] for it in (target, of)]
-    # Types of the language have a capital there, too.
-    words = [it[:1].upper() + it[1:] for it in words]
-    has_words = target and "<" in head.partition(" for ")[0].removeprefix(parameters_of(head))
-    return None if has_words or not all(re.fullmatch(r"\w*", it) for it in words) else "".join(words)
-
-
-def parameters_of(head):
-    """An impl's own parameters, with their brackets, at the front of its head."""
-    depth = 0
-    for at, it in enumerate(head):
-        depth += (it == "<") - (it == ">" and head[at - 1] != "-")
-        if not depth:
-            return head[: at + 1] if it == ">" else ""
-    return ""
-
-
-def function_at(text, place):
-    """The function in whose text this place of a file stands, by its path in the file's module, or none."""
-    within, found = None, None
-    lines = text[: text.find("\n", place)].split("\n")
-    for number, line in enumerate(lines):
-        if head := ITEM.match(line):
-            within, found = None, None
-            if head[1] == "impl":
-                rest = " ".join(it.strip() for it in [head[2], *lines[number + 1 : number + 9]])
-                within = name_of_impl(rest)
-        elif head := FUNCTION.match(line):
-            if not head[1]:
-                within, found = None, head[2]
-            elif within:
-                found = f"{within}::{head[2]}"
-            elif found is None or "::" in found:
-                found = None
-    return found
-
-
-def module_of(path):
-    """The module that a file of src/ is, by its path below the crate."""
-    parts = pathlib.PurePath(path).with_suffix("").parts[1:]
-    return "::".join(parts[:-1] if parts[-1] in ("lib", "main", "mod") else parts)
-
-
-def path_of(file, name):
-    """A function's path below the crate."""
-    return "::".join(it for it in (module_of(file), name) if it)
-
-
-def functions_in(file, text):
-    """The functions of a file of src/, by their paths below the crate."""
-    names = (function_at(text, it.end()) for it in FUNCTION.finditer(text))
-    return {path_of(file, it) for it in names if it}
-
-
-def functions_of(edit, crate):
-    """The functions that an edit changes, by their paths below the crate; none where it changes anything else."""
-    path, old, texts, found = "", "", {}, []
-    for kind, words in LINE.findall(edit.read_text(errors="replace")):
-        if kind == "file":
-            path = words
-            if not path.startswith("src/"):
-                return []
-            texts.setdefault(path, (crate / path).read_text())
-        elif kind == "old":
-            old = words
-        else:
-            place = texts[path].find(old)
-            name = function_at(texts[path], place + len(old) - len(old.lstrip()))
-            if place < 0 or not name:
-                return []
-            found.append(path_of(path, name))
-            texts[path] = texts[path].replace(old, words)
-    return [*dict.fromkeys(found)]
+def words_of(functions):
+    """The words of a check that is asked for these functions, or of a whole one."""
+    return ["--jobs", "1", *(word for it in functions for word in ("--only", it))]
 
 
 def put_holes(crate, functions, room):
     """Gives each other function of a copy of the crate a hole for its proof, but one whose proof others name."""
     proofs = "".join(it.read_text() for it in room.glob("proofs/**/*.antt"))
-    files = [it for it in room.glob("src/**/*.rt")]
-    every = set().union(*(functions_in(it.relative_to(room), it.read_text()) for it in files))
-    for name in every - {*functions}:
+    for name in {*edited.bodies_of(room)} - {*functions}:
         path, folder = name.replace("::", "."), room / "proofs" / name.replace("::", "/")
         if any(f"Rattle.{crate}.proofs.{path}.{it}" in proofs for it in PROOF):
             continue
@@ -157,14 +72,6 @@ def put_holes(crate, functions, room):
         for it in PROOF:
             (folder / f"{it}.antt").unlink(missing_ok=True)
         (folder / "Proof.antt").write_text(HOLE.format(crate=crate, path=path, name=name.rpartition("::")[2]))
-
-
-def is_refused(crate, functions, said):
-    """Whether a check refused one of these functions, or a closure in it, and nothing else."""
-    is_own = lambda name: any(f"{name.replace('fn::', '')}::".startswith(f"{it}::") for it in functions)
-    told = re.findall(rf"^fn {crate}::(\S+): (.*)", said, re.MULTILINE)
-    is_well = all(is_own(name) or it.startswith(("proved", "no holes", "depends on a hole")) for name, it in told)
-    return is_well and any(is_own(name) and it.startswith(("not proved", "no proof")) for name, it in told)
 
 
 class Runs:
@@ -241,6 +148,8 @@ class Trial:
     def __init__(self, folder, edits, room):
         self.folder, self.edits, self.room = folder, edits, room
         self.toolchain, self.runs, self.kept = toolchain.load(), Runs(), Kept()
+        # What checks of several edits said of each; what the gate keeps; and which libraries are of that.
+        self.told, self.store, self.of_store = {}, None, {}
         self.rtlib = self.toolchain.rtlib
         self.toolchain.checked = self.check
         self.toolchain.rtlib.guarded()
@@ -262,13 +171,17 @@ class Trial:
     def key(self, crate, edit):
         """A sum of all that the judgement of an edit depends on."""
         tools = [f"{self.rtlib.KIT}/{it}" for it in ("WHAT", "KIT-ID", "bin/rt", "bin/rtlib.py")]
-        parts = [self.rtlib.sum_of(it) for it in [*tools, __file__, edit]]
+        modules = [__file__, edit_groups.__file__, edited.__file__]
+        parts = [self.rtlib.sum_of(it) for it in [*tools, *modules, edit]]
         parts += [self.sums[it] for it in [*self.below[crate.name], crate.name]]
         return hashlib.sha256(repr(parts).encode()).hexdigest()
 
     def check(self, crate, texts, flags, kept):
-        """Checks a copy of the crate with these texts for its own, and answers in the words of a whole check."""
+        """Checks a copy of the crate with these texts for its own, and answers in the words of a whole check. What was
+        said of them by a check of several edits is answered as it is."""
         functions = [flags[at + 1] for at, it in enumerate(flags) if it == "--only"]
+        if functions and (said := self.told.pop((crate.name, repr(sorted(texts.items()))), "")):
+            return subprocess.CompletedProcess([], 1, said)
         with tempfile.TemporaryDirectory(prefix="xg-edit-", dir=self.room, ignore_cleanup_errors=True) as room:
             for part in self.rtlib.PARTS:
                 if os.path.isdir(f"{crate.folder}/{part}"):
@@ -281,11 +194,20 @@ class Trial:
             words = [self.rtlib.RATTLE, "check", *crate.words(flags, keeps=False)]
             how = {"cwd": room, "stdin": subprocess.DEVNULL, "stdout": subprocess.PIPE, "stderr": subprocess.STDOUT}
             ran = self.runs.run([*self.rtlib.guarded(), *words], errors="replace", **how)
-        if ran.returncode == 1 and functions and is_refused(crate.name, functions, ran.stdout):
-            of_holes = re.compile(r"(\./)?proofs/\S*/Proof\.antt:")
-            lines = [it for it in ran.stdout.split("\n") if not of_holes.match(it)]
-            ran.stdout = "\n".join([*lines, "logic=not-proved"])
+        if ran.returncode == 1 and functions and edit_groups.is_refused(crate.name, functions, ran.stdout):
+            lines = [it for it in ran.stdout.split("\n") if not edit_groups.OF_A_PROOF.match(it)]
+            ran.stdout = "\n".join([*lines, edit_groups.LAST])
         return ran
+
+    def check_group(self, crate, group):
+        """Checks a copy of the crate with the changes of several edits, and notes what that says of each. Where one
+        can't be read, each is tried alone."""
+        ran = self.check(crate, group.texts, words_of(group.all_functions()), None)
+        is_read = not any(self.toolchain.unread(it, group.texts) for it in ran.stdout.split("\n"))
+        parts = group.parts(crate.name, ran.stdout) if ran.returncode == 1 and is_read else {}
+        for name, said in parts.items():
+            texts = self.toolchain.read_edit(pathlib.Path(crate.folder, self.folder, name), crate.folder)[0]
+            self.told[crate.name, repr(sorted(texts.items()))] = said
 
     def ask(self, crate, edit, flags):
         """Whether the toolchain refuses an edit, and what it says. It has a word for that, or, in older ones, a truth.
@@ -294,31 +216,33 @@ class Trial:
         said = said.replace(AT_A_LIMIT, "NOT REFUSED (stopped by a limit of the prover")
         return came == getattr(self.toolchain, "REFUSED", True), said
 
-    def judge(self, crate, name):
-        """What the toolchain says of an edit: on its functions, and where they don't decide, on the whole crate."""
-        edit, jobs = pathlib.Path(crate.folder, self.folder, name), ["--jobs", "1"]
+    def before(self, crate, name):
+        """What became of an edit, where that is certain before it is tried."""
+        edit = pathlib.Path(crate.folder, self.folder, name)
         if not NAME.fullmatch(name):
             return Result(False, f"BAD EDIT: an edit stands right in {self.folder}/, and its name ends in .edit")
         if why := self.toolchain.read_edit(edit, crate.folder)[1]:
             return Result(False, f"BAD EDIT: {why}")
-        key = self.key(crate, edit)
-        if found := self.kept.of(key):
-            return found
-        functions = functions_of(edit, pathlib.Path(crate.folder))
-        flags = [*jobs, *(word for it in functions for word in ("--only", it))]
-        is_refused, said = self.ask(crate, edit, flags) if functions else (False, "")
+        return self.kept.of(self.key(crate, edit))
+
+    def judge(self, crate, name):
+        """What the toolchain says of an edit: on its functions, and where they don't decide, on the whole crate."""
+        edit = pathlib.Path(crate.folder, self.folder, name)
+        functions = edited.functions_of(edit, pathlib.Path(crate.folder))
+        is_refused, said = self.ask(crate, edit, words_of(functions)) if functions else (False, "")
         if not is_refused:
-            is_refused, said = self.ask(crate, edit, jobs)
+            is_refused, said = self.ask(crate, edit, words_of([]))
         said = " ".join(said.partition(f"{name}: ")[2].split())
         if is_refused:
-            self.kept.keep(key, said)
+            self.kept.keep(self.key(crate, edit), said)
         return Result(is_refused, said)
 
     def needs_build(self, name):
-        """Whether the libraries below a crate have to be built: those of `rt ci` have no stamp, and are new or old
-        together; those of other commands have one."""
+        """Whether the libraries below a crate have to be built: those of `rt ci` have no stamp and are new or old
+        together, or are those that it keeps; those of other commands have a stamp."""
         crates = [self.crates[it] for it in self.below[name]]
-        return not all(map(self.is_of_gate, crates)) and not all(it.is_built() for it in crates)
+        is_any = lambda holds: all(map(holds, crates))
+        return not (is_any(self.is_of_gate) or is_any(self.is_kept_by_gate) or is_any(lambda it: it.is_built()))
 
     def is_of_gate(self, crate):
         """Whether a library is newer than its sources and than the libraries below it, and was built by `rt ci`."""
@@ -328,15 +252,35 @@ class Trial:
         made = os.path.getmtime(f"{crate.rlib}/format")
         return all(os.path.exists(it) and os.path.getmtime(it) < made for it in files)
 
+    def is_kept_by_gate(self, crate):
+        """Whether a library is the one that `rt ci` keeps of these sources, over the libraries below it. A checkout's
+        files are newer than what is kept of them."""
+        if crate.name not in self.of_store:
+            self.of_store[crate.name] = all(map(self.is_kept_by_gate, crate.deps)) and self.is_in_store(crate)
+        return self.of_store[crate.name]
+
+    def is_in_store(self, crate):
+        has_store = os.path.isdir(getattr(self.toolchain, "STORE", ""))
+        if not has_store or os.path.exists(f"{crate.folder}/out/rlib/stamp") or not os.path.isdir(crate.rlib):
+            return False
+        self.store = self.store or self.toolchain.Kept([])
+        self.store.is_built(crate)
+        place = pathlib.Path(self.store.place(crate, False, self.store.key(crate)))
+        try:
+            files = [(path, sum) for path, sum in json.loads((place / "made.json").read_text())["files"]]
+        except (OSError, ValueError, KeyError, TypeError):
+            return False
+        return self.store.rlibs[crate.name] == hashlib.sha256(repr(files).encode()).hexdigest()
+
     def build(self, crate, given, jobs):
         """Builds a library as `rt must-fail` does, over what checks kept, and answers whether it is built."""
         if not all(given[it, "library"] for it in self.below[crate.name]):
             return False
         return not crate.build_rlib(["--jobs", str(jobs)], anew=False)
 
-    def tasks(self):
-        """All that is to be done, in the form of the toolchain's lanes."""
-        lacking = {name for name in self.edits if self.needs_build(name)}
+    def tasks(self, edits):
+        """All that is to be done for these edits, given by crate, in the form of the toolchain's lanes."""
+        lacking = {name for name in edits if self.needs_build(name)}
         low = {it for name in lacking for it in self.below[name]}
         found = {}
         for name, crate in self.crates.items():
@@ -345,15 +289,26 @@ class Trial:
                 waits = [(it, "library") for it in self.below[name]]
                 found[name, "library"] = waits, lines, needs, lambda given, jobs, it=crate: self.build(it, given, jobs)
             waits = [(it, "library") for it in self.below[name] if name in lacking]
-            for edit in self.edits.get(name, []):
-                call = lambda given, _, it=crate, edit=edit: self.try_one(it, edit, given)
-                found[name, "edits", edit] = waits, lines, needs, call
+            for number, group in enumerate(self.groups(crate, edits.get(name, []))):
+                call = lambda given, _, it=crate, group=group: self.try_group(it, group, given)
+                found[name, "edits", number] = waits, lines, needs, call
         return found
 
-    def try_one(self, crate, edit, given):
+    def groups(self, crate, names):
+        """Edits of a crate in groups that are tried by one check; the others each by themselves."""
+        folder = pathlib.Path(crate.folder)
+        found = edit_groups.groups(folder, [folder / self.folder / it for it in names])
+        grouped = {it for group in found for it in group.functions}
+        return [*found, *(edit_groups.Group({it: []}, {}) for it in names if it not in grouped)]
+
+    def try_group(self, crate, group, given):
+        """What became of each edit of a group, by its name."""
         if not all(given.get((it, "library"), True) for it in self.below[crate.name]):
-            return Result(False, "NOT TRIED: a library below its crate isn't proved")
-        return self.judge(crate, edit)
+            lacks = Result(False, "NOT TRIED: a library below its crate isn't proved")
+            return {it: lacks for it in group.functions}
+        if len(group.functions) > 1:
+            self.check_group(crate, group)
+        return {it: self.judge(crate, it) for it in group.functions}
 
     def results(self):
         """What became of each edit, by crate and name, side by side on as many processors as there are."""
@@ -365,9 +320,13 @@ class Trial:
         for it in INTERRUPTS:
             if signal.getsignal(it) is not signal.SIG_IGN:
                 signal.signal(it, stop)
-        found = self.toolchain.in_lanes(self.tasks())
+        found = {(name, it): self.before(self.crates[name], it) for name, edits in self.edits.items() for it in edits}
+        left = {name: [it for it in edits if not found[name, it]] for name, edits in self.edits.items()}
+        tried = self.toolchain.in_lanes(self.tasks({name: edits for name, edits in left.items() if edits}))
+        for (name, kind, *_), results in tried.items():
+            found.update({(name, it): result for it, result in results.items()} if kind == "edits" else {})
         self.kept.remove_old()
-        return {(name, edit): found[name, "edits", edit] for name, edits in self.edits.items() for edit in edits}
+        return found
 
 
 def try_edits(folder, edits):
