@@ -126,7 +126,12 @@ fn space_len(bytes: &[u8]) -> usize
     if is_one_space(bytes) {
         return 1;
     }
-    bytes.iter().take_while(|byte| is_space(**byte)).count()
+    for i in 0..bytes.len() {
+        if !is_space(bytes[i]) {
+            return i;
+        }
+    }
+    bytes.len()
 }
 
 /// Whether white space stands at the front and a byte above all white space behind it, as between most tokens.
@@ -147,7 +152,12 @@ fn run_len(bytes: &[u8]) -> usize
     if is_one_byte(bytes) {
         return 1;
     }
-    bytes.iter().take_while(|byte| in_run(**byte)).count()
+    for i in 0..bytes.len() {
+        if !in_run(bytes[i]) {
+            return i;
+        }
+    }
+    bytes.len()
 }
 
 /// Whether a byte of a run stands at the front and white space behind it: most runs are one letter or one digit.

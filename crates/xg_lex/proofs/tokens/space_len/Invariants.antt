@@ -1,0 +1,7 @@
+use Rattle.std.proofs.Common.{◌≡◌, ◌+◌, drop}
+use Rattle.std.specs.List.{prefix_len}
+use Rattle.def_file_tokens.specs.Bytes.{is_space}
+use Rattle.xg_lex.proofs.tokens.space_len.Given as goal
+
+abbrev pub invariant-loop-i : goal.invariant-loop-i
+invariant-loop-i l = l.i + prefix_len is_space (drop l.i l.bytes) ≡ prefix_len is_space l.bytes
