@@ -1,12 +1,15 @@
 -- Actions by their names and their probabilities, and those of a set among all of them.
 use Rattle.std.proofs.Common.{◌≡◌, ℕ, zero, suc, ◌+◌, ◌-◌, ◌≤◌, ◌<◌, List, [], ◌∷◌, ◌++◌, length, take, drop, slice_get, slice_index_or, Some, refl, sym, ap}
-use Rattle.std.proofs.Common.{◌∙◌, arith}
-use Rattle.std.specs.List.{slice_range}
+use Rattle.std.proofs.Common.{◌∙◌, arith, replicate, subst}
+use Rattle.std.specs.List.{All, slice_range}
+use Rattle.std.proofs.lemmas.List.Elements.{All-append, All-replicate}
 use Rattle.std.proofs.Math.Seq.{drop-append_seam, take-length}
-use Rattle.std.proofs.lemmas.List.{drop-append-le, take-append-le, length-drop, length-append, append_assoc}
+use Rattle.std.proofs.lemmas.List.{drop-append-le, take-append-le, length-drop, length-append, length-replicate, append_assoc, append-nil, take_all}
 use Rattle.def_fraction.specs.Fraction.{Fraction, zero_fraction}
 use Rattle.def_file.specs.Content.{action_with}
-use Rattle.xg_game.specs.Actions.{GivesSame, actions_of}
+use Rattle.def_file.proofs.Fractions.{zero_small}
+use Rattle.def_file.specs.Game.{IsSmallFraction}
+use Rattle.xg_game.specs.Actions.{KeepsChances, actions_of}
 
 -- there is an action for each name
 pub length-actions_of : (names : List (List ℕ)) (chances : List Fraction)
@@ -49,12 +52,33 @@ zero_last (name ∷ names) (chance ∷ chances) short =
     ap (λ rest. action_with name chance ∷ rest) (zero_last names chances (omega (arith, short)))
 
 -- nor do several
-pub zero_put : (old chances new : List Fraction) (none : Fraction) → none ≡ zero_fraction → new ≡ chances ++ none ∷ []
-    → GivesSame old chances → GivesSame old new
-zero_put old chances new none is put same names many =
-    let all : new ≡ chances ++ zero_fraction ∷ [] = put ∙ ap (λ (z : Fraction). chances ++ z ∷ []) is in
-    let size : length new ≡ length chances + 1 = ap length all ∙ length-append chances (zero_fraction ∷ []) in
-    ap (actions_of names) all ∙ zero_last names chances (omega (arith, size, many)) ∙ same names (omega (arith, size, many))
+zeros_last : (n : ℕ) (names : List (List ℕ)) (chances : List Fraction) → length chances + n ≤ length names
+    → actions_of names (chances ++ replicate n zero_fraction) ≡ actions_of names chances
+zeros_last zero names chances many = ap (actions_of names) (append-nil chances)
+zeros_last (suc n) names chances many =
+    ap (actions_of names) (sym (append_assoc chances (zero_fraction ∷ []) (replicate n zero_fraction)))
+    ∙ zeros_last n names (chances ++ zero_fraction ∷ []) (omega (arith, many, length-append chances (zero_fraction ∷ [])))
+    ∙ zero_last names chances (omega (arith, many))
+
+-- probabilities of 0 behind the others, as many in all as there are names
+pub record ArePadded (names : List (List ℕ)) (chances new : List Fraction) : Type 0 where
+  pub count : length new ≡ length names
+  pub same : actions_of names new ≡ actions_of names chances
+  pub small : All IsSmallFraction new
+
+pub padded : (names : List (List ℕ)) (chances new : List Fraction) (len n : ℕ) (none : Fraction) → KeepsChances names chances
+    → len ≡ length names → n ≡ len - length chances → none ≡ zero_fraction → new ≡ take len chances ++ replicate n none
+    → ArePadded names chances new
+padded names chances new len n none kept is rest zero_is put =
+    let all : new ≡ chances ++ replicate n zero_fraction =
+    put ∙ ap (λ (cs : List Fraction). cs ++ replicate n none) (take_all len chances (omega (arith, is, kept.count)))
+    ∙ ap (λ (z : Fraction). chances ++ replicate n z) zero_is in
+    record {
+      count = omega (arith, ap length all, length-append chances (replicate n zero_fraction), length-replicate n zero_fraction, is, rest, kept.count);
+      same = ap (actions_of names) all ∙ zeros_last n names chances (omega (arith, is, rest, kept.count));
+      small = subst (All IsSmallFraction) (sym all)
+          (All-append IsSmallFraction chances (replicate n zero_fraction) kept.small (All-replicate IsSmallFraction n zero_fraction zero_small));
+    }
 
 -- the last name has the last probability, where there are as many
 pub chance_last : (names : List (List ℕ)) (chances : List Fraction) (name : List ℕ) (chance : Fraction)

@@ -1,17 +1,20 @@
 -- A table's entries, seen as the content of a file has them.
-use Rattle.std.proofs.Common.{◌≡◌, ℕ, zero, suc, ◌+◌, ◌<◌, ◌≤◌, not, cond, nat_eq, nat_lt, List, [], ◌∷◌, ◌++◌, map, length, get_or, set, position, slice_get}
+use Rattle.std.proofs.Common.{◌≡◌, ℕ, Bool, true, false, zero, suc, ◌+◌, ◌<◌, ◌≤◌, not, cond, nat_eq, nat_lt, List, [], ◌∷◌, ◌++◌, map, length, get_or, set, position, slice_get}
 use Rattle.std.proofs.Common.{Option, Some, None, Result, Ok, Err, refl, ap, sym, subst, ◌∙◌, arith}
 use Rattle.std.specs.List.{position_or_len}
 use Rattle.std.specs.Result.{OnOk, OnErr}
 use Rattle.std.specs.Map.{keys_of, values_of}
 use Rattle.std.proofs.Math.ListN.{length-map}
 use Rattle.std.proofs.lemmas.List.{map-append, map-set}
-use Rattle.def_file.specs.Content.{Action, SetEntry, OutcomeEntry}
+use Rattle.std.specs.Option.{option_map_or}
+use Rattle.std.proofs.lemmas.List.Quantifiers.{position-Some}
+use Rattle.def_file.specs.Content.{Action, SetEntry, SetMention, OutcomeEntry, OutcomeMention}
 use Rattle.def_file.specs.Faults.{no_set, set_at, set_place_of, null_outcome, outcome_at, outcome_place_of}
-use Rattle.def_file.specs.Adding.{kept_name}
+use Rattle.def_file.specs.Adding.{kept_name, new_outcome, new_set, noted_outcome, noted_set}
 use Rattle.xg_game.specs.Actions.{SpanIsWithin}
 use Rattle.xg_game.specs.Sets.{SpansAreWithin, set_of}
 use Rattle.xg_game.specs.Outcomes.{outcome_entry_of}
+use Rattle.xg_game.specs.Places.{place_of_outcome}
 use Rattle.xg_game.specs.declared.actions.Span.{Span}
 use Rattle.xg_game.specs.declared.table.Described.{Described}
 use Rattle.xg_game.specs.declared.outcomes.PayoffPair.{PayoffPair}
@@ -98,6 +101,15 @@ pub set_renamed : (all : List Action) (es new : List (ℕ × KnownSet)) (table :
 set_renamed all es new table i e given at seen put =
     ap (map (set_of all)) put ∙ set_named all es i e given at
     ∙ ap (λ (ss : List SetEntry). set ss i (record (set_at ss i) { name = kept_name (set_at ss i).name given })) seen
+
+-- where a set is known, a mention gives it a name
+pub set_noted : (table : List SetEntry) (m : SetMention) (i : ℕ) → set_place_of m.number table ≡ Some i
+    → (i < length table) × (set table i (record (set_at table i) { name = kept_name (set_at table i).name m.name }) ≡ noted_set table m)
+set_noted table m i at = (
+  (position-Some (λ (e : SetEntry). nat_eq m.number e.number) table i no_set at).0,
+  sym (ap (λ (place : Option ℕ). option_map_or (λ (k : ℕ). set table k (record (set_at table k) { name = kept_name (set_at table k).name m.name })) place
+      (table ++ new_set m ∷ [])) at),
+)
 
 -- the actions of the sets are still within more of them
 pub within_more : (size more : ℕ) (es : List (ℕ × KnownSet)) → size ≤ more → SpansAreWithin size es
@@ -214,3 +226,21 @@ pub outcome_renamed : (es new : List (ℕ × KnownOutcome)) (table : List Outcom
 outcome_renamed es new table i e given at seen put =
     ap (map outcome_entry_of) put ∙ outcome_named es i e given at
     ∙ ap (λ (ss : List OutcomeEntry). set ss i (record (outcome_at ss i) { name = kept_name (outcome_at ss i).name given })) seen
+
+-- where an outcome is known, a mention gives it a name
+pub outcome_noted : (table : List OutcomeEntry) (m : OutcomeMention) (i : ℕ) → place_of_outcome m.number table ≡ Some i
+    → (i < length table)
+    × (set table i (record (outcome_at table i) { name = kept_name (outcome_at table i).name m.name }) ≡ noted_outcome table m)
+outcome_noted table m i at = by (nat_eq m.number 0) refl at
+  where
+    rename : ℕ → List OutcomeEntry
+    rename k = set table k (record (outcome_at table k) { name = kept_name (outcome_at table k).name m.name })
+
+    by : (b : Bool) → nat_eq m.number 0 ≡ b → cond b None (outcome_place_of m.number table) ≡ Some i
+        → (i < length table) × (rename i ≡ noted_outcome table m)
+    by true null at = cc
+    by false null at = (
+      (position-Some (λ (e : OutcomeEntry). nat_eq m.number e.number) table i null_outcome at).0,
+      sym (ap (λ (b : Bool). cond b table (option_map_or rename (outcome_place_of m.number table) (table ++ new_outcome m ∷ []))) null
+          ∙ ap (λ (place : Option ℕ). option_map_or rename place (table ++ new_outcome m ∷ [])) at),
+    )

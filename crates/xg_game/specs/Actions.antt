@@ -1,5 +1,5 @@
 -- The actions of a set by their names and their probabilities.
-use Rattle.std.specs.Prelude.{◌≡◌, ℕ, ◌≤◌, List, [], ◌∷◌, length, slice_range, All}
+use Rattle.std.specs.Prelude.{ℕ, ◌≤◌, List, [], ◌∷◌, length, slice_range, All}
 use Rattle.def_fraction.specs.Fraction.{Fraction, zero_fraction}
 use Rattle.def_file.specs.Content.{Action, action_with}
 use Rattle.def_file.specs.Game.{IsSmallFraction}
@@ -26,7 +26,3 @@ actions_in actions span = slice_range actions span.start span.end
 
 abbrev pub SpanIsWithin : ℕ → Span → Type 0
 SpanIsWithin size span = (span.start ≤ span.end) × (span.end ≤ size)
-
--- for names that are at least as many, other probabilities give the same actions
-abbrev pub GivesSame : List Fraction → List Fraction → Type 0
-GivesSame old new = (names : List (List ℕ)) → length new ≤ length names → actions_of names new ≡ actions_of names old

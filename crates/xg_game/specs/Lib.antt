@@ -8,4 +8,5 @@ pub mod Places
 pub mod Prologues
 pub mod Refusals
 pub mod Sets
+pub mod Taken
 pub mod Texts

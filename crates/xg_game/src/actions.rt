@@ -4,7 +4,7 @@ ghost use Rattle.std.specs.Prelude.{IsTrue, OnOk, Some};
 ghost use Rattle.def_fraction.specs.Fraction.{zero_fraction};
 ghost use Rattle.def_file.specs.Content.{action_with};
 ghost use Rattle.def_file.specs.Game.{IsSmallFraction};
-ghost use Rattle.xg_game.specs.Actions.{GivesSame, SpanIsWithin, action_kept, actions_in};
+ghost use Rattle.xg_game.specs.Actions.{SpanIsWithin, action_kept, actions_in};
 ghost use Rattle.xg_record.specs.Entry.{actions_seen};
 
 use crate::outcomes::known;
@@ -116,7 +116,14 @@ impl KeptActions {
             let action = actions.get(i);
             self.push(alloc, &action.name, action.chance)?;
         }
-        span_of(start, self.len())
+        let end = self.len();
+        if end > MOST_KEPT {
+            return Err(AllocError);
+        }
+        Ok(Span {
+            start: start as u32,
+            end: end as u32,
+        })
     }
 
     /// Puts an action last.
@@ -126,10 +133,10 @@ impl KeptActions {
     {
         let before = self.names.len();
         self.names.push_view(alloc, name)?;
-        if is_zero(chance) {
+        if let Ordering::Equal = compare(chance, zero()) {
             return Ok(());
         }
-        pad(&mut self.chances, before)?;
+        self.chances.resize(before, zero())?;
         self.chances.push(known(chance))?;
         Ok(())
     }
@@ -171,26 +178,6 @@ impl<'a> ActionList<'a> {
     }
 }
 
-/// The span of the actions from one place on and before another.
-fn span_of(start: usize, end: usize) -> Result<Span, AllocError>
-    requires { start ≤ end }
-    ensures { IfOk result (λ span. (span.start ≡ start) × (span.end ≡ end)) }
-{
-    if end > MOST_KEPT {
-        return Err(AllocError);
-    }
-    Ok(Span {
-        start: start as u32,
-        end: end as u32,
-    })
-}
-
-fn is_zero(number: Frac) -> bool
-    ensures { IsTrue result ↔ (number ≡ zero_fraction) }
-{
-    matches!(compare(number, zero()), Ordering::Equal)
-}
-
 /// The probability at `i`, which is 0 behind the last one.
 fn chance_at(chances: &[Frac], i: usize) -> Frac
     ensures { result ≡ slice_index_or chances.now i zero_fraction }
@@ -200,18 +187,4 @@ fn chance_at(chances: &[Frac], i: usize) -> Frac
     } else {
         zero()
     }
-}
-
-/// Puts probabilities of 0 last, until there are so many.
-fn pad(chances: &mut Vec<Frac>, len: usize) -> Result<(), AllocError>
-    requires { length chances.old.items ≤ len }
-    ensures ok { OnOk result (length chances.new.items ≡ len) }
-    ensures same { GivesSame chances.old.items chances.new.items }
-    ensures within { length chances.new.items ≤ len }
-    ensures small { All IsSmallFraction chances.old.items → All IsSmallFraction chances.new.items }
-{
-    for _ in chances.len()..len {
-        chances.push(zero())?;
-    }
-    Ok(())
 }

@@ -67,18 +67,7 @@ impl Game {
     pub fn into_tree(self) -> Tree
         ensures { result ≡ self.tree }
     {
-        let Game {
-            prologue,
-            tree,
-            names,
-            sets,
-            outcomes,
-        } = self;
-        drop(prologue);
-        drop(names);
-        drop(sets);
-        drop(outcomes);
-        tree
+        self.tree
     }
 
     /// The tree of the game's nodes.
@@ -95,7 +84,7 @@ impl Game {
     pub fn numbers_are_in_lowest_terms(&self)
         ensures { HasFractions self.now.sets self.now.outcomes }
     {
-        self.sets.chances_are_small();
+        self.sets.of(Kind::Chance).chances_are_small();
         self.outcomes.payoffs_are_small();
     }
 

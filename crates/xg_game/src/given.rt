@@ -15,14 +15,6 @@ use xg_lex::{Text, TextView};
 use xg_record::{ActionView, EntryActions};
 use xg_tree::Kind;
 
-/// Whether texts have the same bytes.
-#[inline(always)]
-pub(crate) fn same_text(a: &Text, b: &TextView<'_>) -> bool
-    ensures { result ≡ faults.same_text a.now b.now }
-{
-    b.is(a.bytes())
-}
-
 /// Whether numbers have the same value.
 pub(crate) fn same_value(a: Frac, b: Frac) -> bool
     ensures { result ≡ faults.same_value a b }
@@ -47,7 +39,7 @@ pub(crate) fn name_differs(kept: &Option<Text>, given: &Option<TextView<'_>>) ->
     ensures { result ≡ faults.name_differs kept.now given.now }
 {
     match (kept, given) {
-        (Some(kept), Some(given)) => !same_text(kept, given),
+        (Some(kept), Some(given)) => !given.is(kept.bytes()),
         _ => false,
     }
 }
@@ -62,8 +54,8 @@ pub(crate) fn keep_name(
     ensures ok { OnOk result (kept.new ≡ adding.kept_name kept.old given.now) }
     ensures err { OnErr result (kept.new ≡ kept.old) }
 {
-    if let (None, Some(given)) = (&*kept, given) {
-        *kept = Some(given.to_text(alloc)?);
+    if kept.is_none() {
+        *kept = to_keep(alloc, given)?;
     }
     Ok(())
 }
@@ -81,23 +73,8 @@ pub(crate) fn to_keep(
     }
 }
 
-/// Whether actions are given that differ in their number, a name or a probability from those that are kept.
-#[inline(always)]
-pub(crate) fn actions_differ(
-    kind: Kind,
-    kept: &ActionList<'_>,
-    given: &Option<EntryActions<'_>>,
-) -> bool
-    ensures { result ≡ faults.actions_differ kind kept.now (option_map actions_seen given.now) }
-{
-    match given {
-        Some(given) => !same_actions(kind, kept, given),
-        None => false,
-    }
-}
-
 /// Whether lists of actions are as long, and the same at each place.
-fn same_actions(kind: Kind, kept: &ActionList<'_>, given: &EntryActions<'_>) -> bool
+pub(crate) fn same_actions(kind: Kind, kept: &ActionList<'_>, given: &EntryActions<'_>) -> bool
     ensures { result ≡ pointwise (faults.same_action kind) kept.now (actions_seen given.now) }
 {
     if kept.len() != given.len() {

@@ -1,5 +1,5 @@
 //! The making of a game.
-ghost use Rattle.std.specs.Prelude.{◌≡◌, ◌≢◌, ◌≤◌, ◌↔◌, ◌||◌, true, false, Some, None, Err, is_some, length, IsTrue, OnOk};
+ghost use Rattle.std.specs.Prelude.{◌≡◌, ◌≢◌, ◌≤◌, ◌↔◌, true, false, Some, None, Err, length, IsTrue, OnOk};
 ghost use Rattle.def_fraction.specs.Fraction.{most};
 ghost use Rattle.def_file.specs.Adding.{with_record};
 ghost use Rattle.def_file.specs.Content.{game_with, no_contents};
@@ -8,6 +8,7 @@ ghost use Rattle.def_file.specs.declared.FileFault.{FileFault};
 ghost use Rattle.def_tree.specs.Rules.{KeepRules, most_nodes};
 ghost use Rattle.def_tree.specs.Tree.{Begins, wanted};
 ghost use Rattle.xg_game.specs.Prologues.{prologue_with};
+ghost use Rattle.xg_game.specs.Taken.{IsTaken};
 ghost use Rattle.xg_record.specs.Entry.{entry_seen};
 ghost use Rattle.xg_record.specs.Record.{record_of};
 
@@ -75,7 +76,7 @@ impl GameMaker {
         ensures names { self.now.spent ≡ false →
             length self.now.contents.names ≡ length self.now.contents.nodes }
     {
-        self.tables.is_complete()
+        self.tables.nodes.is_complete()
     }
 
     /// Whether memory ran out.
@@ -130,7 +131,12 @@ impl GameMaker {
         ensures spent { (result ≡ Err Refused.NoMemory) ↔ (self.new.spent ≡ true) }
         ensures prologue { self.new.prologue ≡ self.old.prologue }
     {
-        if is_described(entry) {
+        // It says more of its set or its outcome than the number.
+        if entry.set_name.is_some()
+            || entry.actions.is_some()
+            || entry.outcome_name.is_some()
+            || entry.payoffs.is_some()
+        {
             return self.push_described(&entry.again());
         }
         self.push_placed(entry)
@@ -144,16 +150,7 @@ impl GameMaker {
         requires unspent { self.old.spent ≡ false }
         requires outcome { entry.now.outcome ≤ most }
         requires set { IsTrue (has_set entry.now.kind) → (1 ≤ entry.now.set) × (entry.now.set ≤ most) }
-        ensures ok { let contents = with_record self.old.contents (entry_seen entry.now) in
-            OnOk result (self.new ≡ record self.old { contents = contents }) }
-        ensures accepted { OnOk result (record_fault self.old.contents (entry_seen entry.now) ≡ None) }
-        ensures refused { (fault : FileFault) → result ≡ Err (Refused.File fault) →
-            (record_fault self.old.contents (entry_seen entry.now) ≡ Some fault) × (self.new ≡ self.old) }
-        ensures faults { (fault : FileFault) →
-            record_fault self.old.contents (entry_seen entry.now) ≡ Some fault →
-            result ≡ Err (Refused.File fault) }
-        ensures spent { (result ≡ Err Refused.NoMemory) ↔ (self.new.spent ≡ true) }
-        ensures prologue { self.new.prologue ≡ self.old.prologue }
+        ensures { IsTaken self.old (entry_seen entry.now) result self.new }
     {
         self.push_placed(entry)
     }
@@ -165,16 +162,7 @@ impl GameMaker {
         requires unspent { self.old.spent ≡ false }
         requires outcome { entry.now.outcome ≤ most }
         requires set { IsTrue (has_set entry.now.kind) → (1 ≤ entry.now.set) × (entry.now.set ≤ most) }
-        ensures ok { let contents = with_record self.old.contents (entry_seen entry.now) in
-            OnOk result (self.new ≡ record self.old { contents = contents }) }
-        ensures accepted { OnOk result (record_fault self.old.contents (entry_seen entry.now) ≡ None) }
-        ensures refused { (fault : FileFault) → result ≡ Err (Refused.File fault) →
-            (record_fault self.old.contents (entry_seen entry.now) ≡ Some fault) × (self.new ≡ self.old) }
-        ensures faults { (fault : FileFault) →
-            record_fault self.old.contents (entry_seen entry.now) ≡ Some fault →
-            result ≡ Err (Refused.File fault) }
-        ensures spent { (result ≡ Err Refused.NoMemory) ↔ (self.new.spent ≡ true) }
-        ensures prologue { self.new.prologue ≡ self.old.prologue }
+        ensures { IsTaken self.old (entry_seen entry.now) result self.new }
     {
         let places = self.tables.places(entry);
         if let Some(fault) = self.tables.fault(entry, places) {
@@ -201,16 +189,4 @@ impl GameMaker {
     pub fn discard(self) {
         drop(self);
     }
-}
-
-/// Whether an entry says more of its set or its outcome than the number.
-#[inline(always)]
-fn is_described(entry: &EntryView<'_>) -> bool
-    ensures { result ≡ (is_some entry.now.set_name || is_some entry.now.actions
-        || is_some entry.now.outcome_name || is_some entry.now.payoffs) }
-{
-    entry.set_name.is_some()
-        || entry.actions.is_some()
-        || entry.outcome_name.is_some()
-        || entry.payoffs.is_some()
 }

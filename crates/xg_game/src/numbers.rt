@@ -141,18 +141,11 @@ fn set_mark(
     if number < PLACES_EACH * mark as u64 + SPARE_PLACES {
         return set_near(near, number as usize, mark);
     }
-    set_seed(alloc, file, far);
-    far.insert(number, mark)?;
-    Ok(())
-}
-
-/// Gives a table its seed, if it has no numbers yet.
-fn set_seed(alloc: Global, file: &[u8], far: &mut IndexMap<u64, u32, Seed>)
-    ensures { far.new.entries ≡ far.old.entries }
-{
     if far.is_empty() {
         *far = IndexMap::with_hasher(alloc, Seed::of(file));
     }
+    far.insert(number, mark)?;
+    Ok(())
 }
 
 /// Sets a mark of the array, which grows with 0 where it is too short.

@@ -9,7 +9,7 @@ ghost use Rattle.xg_game.specs.Outcomes.{HaveSmallPayoffs};
 ghost use Rattle.xg_game.specs.Places.{place_of_outcome};
 ghost use Rattle.xg_record.specs.Entry.{entry_seen};
 
-use crate::given::{name_differs, same_value, to_keep};
+use crate::given::{name_differs, same_value};
 use crate::table::{Described, NumberTable};
 use std::alloc::{AllocError, Global};
 use std::marker::Model;
@@ -132,7 +132,12 @@ impl OutcomeTable {
         requires { place ≡ place_of_outcome entry.now.outcome self.now }
         ensures { result ≡ faults.is_outcome_miscounted self.now (entry_seen entry.now).outcome }
     {
-        entry.outcome != 0 && place.is_none() && has_wrong_payoffs(entry.payoffs)
+        entry.outcome != 0
+            && place.is_none()
+            && match entry.payoffs {
+                Some(payoffs) => payoffs.len() != 2,
+                None => false,
+            }
     }
 
     /// The number of the entry's outcome among those of the table, which count from 1.
@@ -168,26 +173,9 @@ impl OutcomeTable {
             return Ok(());
         }
         match place {
-            Some(i) => self.name(alloc, i, name),
+            Some(i) => self.outcomes.name(alloc, i, name),
             None => self.add(alloc, file, number, &view_again(name), payoffs),
         }
-    }
-
-    /// Gives the outcome at `i` a name, unless it has one.
-    #[inline(always)]
-    fn name(
-        &mut self,
-        alloc: Global,
-        i: usize,
-        name: &Option<TextView<'_>>,
-    ) -> Result<(), AllocError>
-        requires { i < length self.old }
-        ensures ok { let kept = faults.outcome_at self.old i in
-            let named = record kept { name = adding.kept_name kept.name name.now } in
-            OnOk result (self.new ≡ slice_set self.old i named) }
-        ensures err { OnErr result (self.new ≡ self.old) }
-    {
-        self.outcomes.name(alloc, i, name)
     }
 
     /// Puts an outcome last.
@@ -205,7 +193,6 @@ impl OutcomeTable {
         ensures { let mention = outcome_mention number name.now (option_map (λ p. p.now) payoffs.entry) in
             OnOk result (self.new ≡ self.old ++ adding.new_outcome mention ∷ []) }
     {
-        let name = to_keep(alloc, name)?;
         let one = payoff_at(payoffs, 0);
         let two = payoff_at(payoffs, 1);
         self.outcomes
@@ -222,17 +209,6 @@ fn payoff_at(payoffs: Option<&Payoffs>, i: usize) -> Frac
     match payoffs {
         Some(payoffs) if i < payoffs.len() => known(payoffs.get(i)),
         _ => known(zero()),
-    }
-}
-
-/// Whether there is a list that has other than two payoffs.
-#[inline(always)]
-fn has_wrong_payoffs(payoffs: Option<&Payoffs>) -> bool
-    ensures { result ≡ faults.has_wrong_payoffs (option_map (λ p. p.now) payoffs.entry) }
-{
-    match payoffs {
-        Some(payoffs) => payoffs.len() != 2,
-        None => false,
     }
 }
 

@@ -8,13 +8,13 @@ ghost use Rattle.def_file.specs.Game.{IsSmallFraction, chances_of};
 ghost use Rattle.xg_record.specs.Entry.{actions_seen, entry_seen};
 
 use crate::actions::{ActionList, KeptActions, Span};
-use crate::given::{actions_differ, name_differs, to_keep};
+use crate::given::{name_differs, same_actions};
 use crate::table::NumberTable;
 use std::alloc::{AllocError, Global};
 use std::marker::Model;
 use xg_lex::{Text, TextView};
 use xg_record::{EntryActions, EntryView, view_again};
-use xg_tree::{Kind, MOST_ACTIONS};
+use xg_tree::Kind;
 
 /// What is known of a set: the first name that is given, and the actions of the first mention.
 #[derive(Drop)]
@@ -62,7 +62,7 @@ impl SetsOfKind {
     }
 
     /// Each probability is in lowest terms and within the limit: what the actions keep.
-    fn chances_are_small(&self)
+    pub(crate) fn chances_are_small(&self)
         ensures { All (λ entry. All IsSmallFraction (chances_of entry)) self.now }
     {
         self.actions.chances_are_small();
@@ -98,15 +98,6 @@ impl SetsOfKind {
         }
     }
 
-    /// Whether the entry is the first to mention its set, and has no actions.
-    #[inline(always)]
-    pub(crate) fn is_undefined(&self, entry: &EntryView<'_>, place: Option<usize>) -> bool
-        requires { place ≡ faults.set_place_of entry.now.set self.now }
-        ensures { result ≡ faults.is_set_undefined self.now (entry_seen entry.now).set }
-    {
-        place.is_none() && entry.actions.is_none()
-    }
-
     /// Whether the entry has another name or other actions than are kept of its set.
     #[inline(always)]
     pub(crate) fn differs(&self, kind: Kind, entry: &EntryView<'_>, place: Option<usize>) -> bool
@@ -117,19 +108,13 @@ impl SetsOfKind {
             Some(i) => {
                 let kept = self.get(i);
                 name_differs(kept.name, &entry.set_name)
-                    || actions_differ(kind, &kept.actions, &entry.actions)
+                    || match &entry.actions {
+                        Some(given) => !same_actions(kind, &kept.actions, given),
+                        None => false,
+                    }
             }
             None => false,
         }
-    }
-
-    /// Whether the entry is the first to mention its set, and has no action or too many.
-    #[inline(always)]
-    pub(crate) fn is_miscounted(&self, entry: &EntryView<'_>, place: Option<usize>) -> bool
-        requires { place ≡ faults.set_place_of entry.now.set self.now }
-        ensures { result ≡ faults.is_set_miscounted self.now (entry_seen entry.now).set }
-    {
-        place.is_none() && has_wrong_count(&entry.actions)
     }
 
     /// The number of the entry's set among those of the table, which count from 1.
@@ -177,7 +162,7 @@ impl SetsOfKind {
             OnOk result (self.new ≡ adding.noted_set self.old mention) }
     {
         match place {
-            Some(i) => self.name(alloc, i, name),
+            Some(i) => self.sets.name(alloc, i, name),
             None => self.add(
                 alloc,
                 file,
@@ -186,23 +171,6 @@ impl SetsOfKind {
                 &actions.as_ref().unwrap().again(),
             ),
         }
-    }
-
-    /// Gives the set at `i` a name, unless it has one.
-    #[inline(always)]
-    fn name(
-        &mut self,
-        alloc: Global,
-        i: usize,
-        name: &Option<TextView<'_>>,
-    ) -> Result<(), AllocError>
-        requires { i < length self.old }
-        ensures ok { let kept = faults.set_at self.old i in
-            let named = record kept { name = adding.kept_name kept.name name.now } in
-            OnOk result (self.new ≡ slice_set self.old i named) }
-        ensures err { OnErr result (self.new ≡ self.old) }
-    {
-        self.sets.name(alloc, i, name)
     }
 
     /// Puts a set last.
@@ -221,20 +189,8 @@ impl SetsOfKind {
             let added : SetEntry = record { number = number; name = name.now; actions = actions } in
             OnOk result (self.new ≡ self.old ++ added ∷ []) }
     {
-        let name = to_keep(alloc, name)?;
         let span = self.actions.add(alloc, actions)?;
         self.sets.push(alloc, file, number, name, span)
-    }
-}
-
-/// Whether there is a list of actions that has none or too many.
-#[inline(always)]
-fn has_wrong_count(actions: &Option<EntryActions<'_>>) -> bool
-    ensures { result ≡ faults.has_wrong_count (option_map actions_seen actions.now) }
-{
-    match actions {
-        Some(actions) => actions.len() == 0 || actions.len() > MOST_ACTIONS as usize,
-        None => false,
     }
 }
 
@@ -264,13 +220,6 @@ impl SetTables {
             one: SetsOfKind::new(alloc),
             two: SetsOfKind::new(alloc),
         }
-    }
-
-    /// Each probability is in lowest terms and within the limit.
-    pub(crate) fn chances_are_small(&self)
-        ensures { All (λ entry. All IsSmallFraction (chances_of entry)) self.now.chance }
-    {
-        self.chance.chances_are_small();
     }
 
     /// The sets of a kind.

@@ -5,7 +5,7 @@ ghost use Rattle.std.specs.Map.{keys_of, values_of};
 ghost use Rattle.def_file.specs.Adding.{kept_name};
 ghost use Rattle.xg_game.specs.declared.table.Described.{Described};
 
-use crate::given::keep_name;
+use crate::given::{keep_name, to_keep};
 use crate::numbers::PlacedNumbers;
 use std::alloc::{AllocError, Global};
 use std::marker::Model;
@@ -37,7 +37,7 @@ impl<D> Model for NumberTable<D> {
     ghost invariant = { λ t. length t.known.items ≡ length t.numbers };
 }
 
-impl<D: Drop> NumberTable<D> {
+impl<D: Copy> NumberTable<D> {
     /// Nothing is known.
     pub(crate) fn new(alloc: Global) -> NumberTable<D>
         ensures { result ≡ [] }
@@ -103,16 +103,17 @@ impl<D: Drop> NumberTable<D> {
         alloc: Global,
         file: &[u8],
         number: u64,
-        name: Option<Text>,
+        name: &Option<TextView<'_>>,
         value: D,
     ) -> Result<(), AllocError>
         requires new { position (nat_eq number) (keys_of self.old) ≡ None }
         requires room { length self.old + 1 < 2 ^ 32 }
-        ensures ok { let described : Described D = record { name = name; value = value } in
+        ensures ok { let described : Described D = record { name = name.now; value = value } in
             OnOk result (self.new ≡ self.old ++ (number, described) ∷ []) }
         ensures err { OnErr result (self.new ≡ self.old) }
     {
         self.known.reserve(1)?;
+        let name = to_keep(alloc, name)?;
         self.numbers.push(alloc, file, number)?;
         self.known.push_reserved(Described { name, value });
         Ok(())

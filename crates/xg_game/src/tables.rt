@@ -1,10 +1,9 @@
 //! The nodes of entries, with their names, sets and outcomes.
-ghost use Rattle.std.specs.Prelude.{◌≡◌, ◌≢◌, None, OnOk, IsTrue, ◌↔◌, ◌≤◌, ◌&&◌, length};
+ghost use Rattle.std.specs.Prelude.{◌≡◌, ◌≢◌, None, OnOk, ◌&&◌};
 ghost use Rattle.def_file.specs.Adding.{node_with, with_record};
 ghost use Rattle.def_file.specs.Content.{no_contents, sets_of_kind};
 ghost use Rattle.def_file.specs.Faults as faults;
-ghost use Rattle.def_tree.specs.Rules.{KeepRules, most_nodes};
-ghost use Rattle.def_tree.specs.Tree.{Begins, wanted};
+ghost use Rattle.def_tree.specs.Tree.{wanted};
 ghost use Rattle.def_file.specs.Game.{AreTogether};
 ghost use Rattle.xg_game.specs.Places.{ArePlacesOf, place_of_set};
 ghost use Rattle.xg_record.specs.Entry.{entry_seen};
@@ -17,7 +16,7 @@ use def_tree::Node;
 use std::alloc::{AllocError, Global};
 use std::marker::Model;
 use xg_record::EntryView;
-use xg_tree::{Builder, Kind, MOST_NODES};
+use xg_tree::{Builder, Kind, MOST_ACTIONS, MOST_NODES};
 
 /// Where the set and the outcome of an entry are in the tables, if they are there.
 #[derive(Clone, Copy)]
@@ -62,18 +61,6 @@ impl ContentTables {
             outcomes: OutcomeTable::new(alloc),
             alloc,
         }
-    }
-
-    /// Whether the nodes are a whole tree.
-    pub(crate) fn is_complete(&self) -> bool
-        ensures complete { IsTrue result ↔ (wanted 1 self.now.nodes ≡ 0) }
-
-        // What is true of all tables.
-        ensures begins { Begins 1 self.now.nodes }
-        ensures rules { KeepRules self.now.nodes }
-        ensures limit { length self.now.nodes ≤ most_nodes }
-    {
-        self.nodes.is_complete()
     }
 
     /// Where the set and the outcome of an entry are in the tables.
@@ -132,8 +119,7 @@ impl ContentTables {
             let table = sets_of_kind (faults.mover r) self.now.sets in
             result ≡ faults.has_set r.kind && faults.is_set_undefined table r.set }
     {
-        let kind = mover(entry.kind, entry.player);
-        has_set(entry.kind) && self.sets.of(kind).is_undefined(entry, place)
+        has_set(entry.kind) && place.is_none() && entry.actions.is_none()
     }
 
     #[inline(always)]
@@ -154,8 +140,12 @@ impl ContentTables {
             let table = sets_of_kind (faults.mover r) self.now.sets in
             result ≡ faults.has_set r.kind && faults.is_set_miscounted table r.set }
     {
-        let kind = mover(entry.kind, entry.player);
-        has_set(entry.kind) && self.sets.of(kind).is_miscounted(entry, place)
+        has_set(entry.kind)
+            && place.is_none()
+            && match &entry.actions {
+                Some(actions) => actions.len() == 0 || actions.len() > MOST_ACTIONS as usize,
+                None => false,
+            }
     }
 
     /// Takes an entry that has no fault. Where memory runs out, part of it may be in the tables.
@@ -186,7 +176,10 @@ impl ContentTables {
             entry.payoffs,
         )?;
         self.names.push_view(self.alloc, &entry.name)?;
-        self.nodes.push(node).map_err(|_| AllocError)
+        if self.nodes.push(node).is_err() {
+            return Err(AllocError);
+        }
+        Ok(())
     }
 
     /// The node of an entry that has no fault.

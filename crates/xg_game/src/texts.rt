@@ -50,7 +50,7 @@ impl Texts {
         requires { i < length self.now }
         ensures { slice_get self.now i ≡ Some result.now }
     {
-        between(&self.bytes, start_of(&self.ends, i), self.ends[i] as usize)
+        &self.bytes[start_of(&self.ends, i)..self.ends[i] as usize]
     }
 
     /// Puts a text last. After an error the texts are as they were.
@@ -112,12 +112,4 @@ fn start_of(ends: &[u32], i: usize) -> usize
         return 0;
     }
     ends[i - 1] as usize
-}
-
-fn between(bytes: &[u8], start: usize, end: usize) -> &[u8]
-    requires rise { start ≤ end }
-    requires within { end ≤ length bytes.now }
-    ensures { result.now ≡ take (end - start) (drop start bytes.now) }
-{
-    &bytes[start..end]
 }

@@ -18,18 +18,18 @@ push-requires-clause-room c =
 
 pub returns : goal.returns
 returns c =
-    let known : KnownOutcome = record { name = c.in_ok-name.name; value = record { one = c.payoff_at-one.result; two = c.payoff_at-two.result } } in
+    let known : KnownOutcome = record { name = c.args.name.now; value = record { one = c.payoff_at-one.result; two = c.payoff_at-two.result } } in
     on_ok_weaker c.push.result (λ put.
     ap (map outcome_entry_of) put ∙ outcome_added c.self.inside.outcomes (c.args.number, known)
     ∙ (λ j. c.self.view_is j ++ record {
       number = c.args.number;
-      name = c.in_ok-name.ensures j;
+      name = c.args.name.now;
       one = c.payoff_at-one.ensures.exact j;
       two = c.payoff_at-two.ensures.exact j;
     } ∷ [])) c.push.ensures.ok
 
 pub invariant_of-self : goal.invariant_of-self
 invariant_of-self c =
-    let kept : KnownOutcome = record { name = c.in_ok-name.name; value = record { one = c.payoff_at-one.result; two = c.payoff_at-two.result } } in
+    let kept : KnownOutcome = record { name = c.args.name.now; value = record { one = c.payoff_at-one.result; two = c.payoff_at-two.result } } in
     paid_put c.push.result c.self.inside.outcomes c.push.new.self (c.args.number, kept) c.self.invariant c.payoff_at-one.ensures.small
     c.payoff_at-two.ensures.small c.push.ensures.ok c.push.ensures.err

@@ -23,7 +23,7 @@ invariant_of-self c =
 
 pub invariant_of-self-2 : goal.invariant_of-self-2
 invariant_of-self-2 c =
-    let known : KnownSet = record { name = c.in_ok-name.name; value = c.in_ok-span.span } in
+    let known : KnownSet = record { name = c.args.name.now; value = c.in_ok-span.span } in
     let span = c.in_ok-span.ensures.span in
     let more : length c.self.inside.actions ≤ length c.add.new.self = c.add.ensures.kept in
     within_put c.push.result (length c.self.inside.actions) (length c.add.new.self) c.self.inside.sets c.push.new.self (c.args.number, known) c.self.invariant
@@ -32,11 +32,11 @@ invariant_of-self-2 c =
 pub returns : goal.returns
 returns c =
     let all : List Action = c.self.inside.actions in
-    let known : KnownSet = record { name = c.in_ok-name.name; value = c.in_ok-span.span } in
+    let known : KnownSet = record { name = c.args.name.now; value = c.in_ok-span.span } in
     let span = c.in_ok-span.ensures.span in
     on_ok_weaker c.push.result (λ put.
     ap (map (set_of c.add.new.self)) put
     ∙ set_added all (actions_seen c.args.actions.now) c.add.new.self c.self.inside.sets c.args.number known c.self.invariant c.in_ok-span.ensures.ok span.0
     span.1
-    ∙ (λ j. c.self.view_is j ++ record { number = c.args.number; name = c.in_ok-name.ensures j; actions = actions_seen c.args.actions.now } ∷ []))
+    ∙ (λ j. c.self.view_is j ++ record { number = c.args.number; name = c.args.name.now; actions = actions_seen c.args.actions.now } ∷ []))
     c.push.ensures.ok

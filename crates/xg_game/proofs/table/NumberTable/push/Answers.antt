@@ -1,4 +1,4 @@
-use Rattle.std.proofs.Common.{length, position, nat_eq, ap, sym, ◌∙◌, arith}
+use Rattle.std.proofs.Common.{ℕ, List, Option, [], ◌∷◌, ◌++◌, length, position, nat_eq, ap, sym, ◌∙◌, arith}
 use Rattle.std.specs.Map.{keys_of}
 use Rattle.std.proofs.lemmas.Map.Made.{keys_of-zip}
 use Rattle.xg_game.proofs.ZipLemmas.{zip-length, pushed}
@@ -17,5 +17,6 @@ push-requires-clause-room g c =
 pub returns-clause-ok : goal.returns-clause-ok
 returns-clause-ok g c =
     pushed c.self.inside.numbers c.push.new.self c.self.inside.known.items c.reserve.new.self.items c.push_reserved.new.self.items c.args.self.now c.args.number
-    (record { name = c.args.name; value = c.args.value }) c.self.invariant
+    (record { name = c.in_ok-name.name; value = c.args.value }) c.self.invariant
     c.in_ok-push.ensures.ok c.reserve.ensures.items c.push_reserved.ensures.items c.self.view_is
+    ∙ ap (λ (name : Option (List ℕ)). c.args.self.now ++ (c.args.number, record { name = name; value = c.args.value }) ∷ []) c.in_ok-name.ensures

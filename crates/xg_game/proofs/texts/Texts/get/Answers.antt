@@ -16,8 +16,8 @@ index-requires c =
     let there : c.args.i < length ends = omega (arith, length-cut_from 0 ends bytes, ap (length {A = List ℕ}) c.self.view_is, c.requires) in
     omega (arith, there)
 
-pub between-requires-clause-rise : goal.between-requires-clause-rise
-between-requires-clause-rise c =
+pub slice_bounds-result-count : goal.slice_bounds-result-count
+slice_bounds-result-count c =
     let ends : List ℕ = c.self.inside.ends.items in
     let bytes : List ℕ = c.self.inside.bytes.items in
     let there : c.args.i < length ends = omega (arith, length-cut_from 0 ends bytes, ap (length {A = List ℕ}) c.self.view_is, c.requires) in
@@ -25,8 +25,17 @@ between-requires-clause-rise c =
     (c.start_of.ensures ∙ ap (λ (ns : List ℕ). get_or (0 ∷ ns) c.args.i 0) c.deref-2.ensures.value) c.index.ensures in
     text.rise
 
-pub between-requires-clause-within : goal.between-requires-clause-within
-between-requires-clause-within c =
+pub slice_bounds-result-start : goal.slice_bounds-result-start
+slice_bounds-result-start c =
+    let ends : List ℕ = c.self.inside.ends.items in
+    let bytes : List ℕ = c.self.inside.bytes.items in
+    let there : c.args.i < length ends = omega (arith, length-cut_from 0 ends bytes, ap (length {A = List ℕ}) c.self.view_is, c.requires) in
+    let text = text_at 0 ends bytes c.args.i c.start_of.result c.index.result.now c.self.invariant there
+    (c.start_of.ensures ∙ ap (λ (ns : List ℕ). get_or (0 ∷ ns) c.args.i 0) c.deref-2.ensures.value) c.index.ensures in
+    text.rise
+
+pub slice_bounds-result-end : goal.slice_bounds-result-end
+slice_bounds-result-end c =
     let ends : List ℕ = c.self.inside.ends.items in
     let bytes : List ℕ = c.self.inside.bytes.items in
     let there : c.args.i < length ends = omega (arith, length-cut_from 0 ends bytes, ap (length {A = List ℕ}) c.self.view_is, c.requires) in
@@ -42,5 +51,4 @@ returns c =
     let text = text_at 0 ends bytes c.args.i c.start_of.result c.index.result.now c.self.invariant there
     (c.start_of.ensures ∙ ap (λ (ns : List ℕ). get_or (0 ∷ ns) c.args.i 0) c.deref-2.ensures.value) c.index.ensures in
     ap (λ (ts : List (List ℕ)). slice_get ts c.args.i) (sym c.self.view_is) ∙ text.text
-    ∙ ap Some (ap (λ (bs : List ℕ). take (c.index.result.now - c.start_of.result) (drop c.start_of.result bs)) (sym c.deref.ensures.value)
-    ∙ sym c.between.ensures)
+    ∙ ap Some (ap (λ (bs : List ℕ). take (c.index.result.now - c.start_of.result) (drop c.start_of.result bs)) (sym c.deref.ensures.value))
