@@ -7,7 +7,7 @@ use crate::links::{Links, put_next};
 use crate::sizes::Sizes;
 use crate::tree::Tree;
 use def_tree::{Kind, MOST_NODES, Node};
-use std::alloc::Global;
+use std::alloc::{AllocError, Global};
 use std::marker::Model;
 use thiserror::Error;
 
@@ -18,6 +18,16 @@ pub enum PushFault {
     TooManyNodes,
     #[error("out of memory")]
     NoMemory,
+}
+
+impl From<AllocError> for PushFault {
+    ghost use Rattle.xg_tree.specs.declared.builder.PushFault.TheVariants.{NoMemory};
+
+    ghost from_gives = { λ _ fault. fault ≡ NoMemory };
+
+    fn from(_error: AllocError) -> PushFault {
+        PushFault::NoMemory
+    }
 }
 
 /// The nodes of a tree so far, in prefix order.
@@ -88,9 +98,9 @@ impl Builder {
         if self.nodes.len() >= MOST_NODES {
             return Err(PushFault::TooManyNodes);
         }
-        self.nodes.reserve(1).map_err(|_| PushFault::NoMemory)?;
-        self.links.reserve(1).map_err(|_| PushFault::NoMemory)?;
-        self.sizes.note(node).map_err(|_| PushFault::NoMemory)?;
+        self.nodes.reserve(1)?;
+        self.links.reserve(1)?;
+        self.sizes.note(node)?;
         self.nodes.push_reserved(node);
         put_next(&mut self.links, node.children);
         self.leaves += leaves_in(node);
