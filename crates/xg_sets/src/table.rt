@@ -92,15 +92,14 @@ impl FoundSets {
         ensures { BeginsSet self.old k node before self.new result }
     {
         let first = self.next;
-        self.rows
-            .push(FoundSet {
-                first,
-                before,
-                actions: node.children,
-                node: k,
-                last: k,
-            })
-            .map_err(|_| RecallFault::NoMemory)?;
+        self.rows.reserve(1)?;
+        self.rows.push_reserved(FoundSet {
+            first,
+            before,
+            actions: node.children,
+            node: k,
+            last: k,
+        });
         self.next += node.children;
         Ok(first)
     }
