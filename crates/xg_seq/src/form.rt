@@ -10,8 +10,9 @@ ghost use Rattle.def_sums.specs.Limits.{most_mass};
 ghost use Rattle.def_tree.specs.Rules.{most_nodes};
 ghost use Rattle.def_tree.specs.Tree.{leaf_count, prefix};
 ghost use Rattle.def_tree.specs.declared.Player.{Player};
-ghost use Rattle.xg_seq.specs.Leaves.{HasSequences, KeepsLeaves, form_action_counts, form_sequences_before, form_with};
+ghost use Rattle.xg_seq.specs.Leaves.{HasSequences, KeepsLeaves, form_action_counts, form_sequences_before};
 ghost use Rattle.xg_seq.specs.Leaves.{firsts_of, leaf_of};
+ghost use Rattle.xg_seq.specs.Parts.{form_of_parts};
 ghost use Rattle.xg_seq.specs.Table.{EndsAt, HaveFewActions, most_sequences, placed_of_row};
 ghost use Rattle.xg_seq.specs.Threads.{KeepsThreads};
 
@@ -50,6 +51,33 @@ impl Model for SeqForm {
     ghost invariant = { λ f. KeepsForm (form_with f.one f.two f.leaves.items) f.threads_one f.threads_two };
 }
 
+// A form whose leaves aren't threaded yet.
+#[derive(Drop)]
+struct FormParts {
+    one: SetPlaces,
+    two: SetPlaces,
+    leaves: Vec<Leaf>,
+}
+
+// The sets of both players and the leaves, with these weights in turn.
+fn parts_of(
+    alloc: Global,
+    tree: &Tree,
+    sets: &Sets,
+    weights: &[i64],
+) -> Result<FormParts, AllocError>
+    requires sets { sets.now ≡ tree_sets tree.now }
+    requires weights { length weights.now ≡ leaf_count (prefix tree.now) }
+    requires mass { sum (map unsigned_abs weights.now) ≤ most_mass }
+    ensures form { IfOk result (λ parts. form_of_parts parts ≡ form_of tree.now weights.now) }
+    ensures kept { IfOk result (λ parts. KeepsLeaves (form_of_parts parts)) }
+{
+    let leaves = leaves_of(alloc, tree, sets, weights)?;
+    let one = table_of(alloc, sets, Player::One)?;
+    let two = table_of(alloc, sets, Player::Two)?;
+    Ok(FormParts { one, two, leaves })
+}
+
 impl SeqForm {
     /// The sequence form of the tree, whose leaves have these weights in turn.
     pub fn build(
@@ -63,10 +91,8 @@ impl SeqForm {
         requires mass { sum (map unsigned_abs weights.now) ≤ most_mass }
         ensures { IfOk result (λ form. form ≡ form_of tree.now weights.now) }
     {
-        let leaves = leaves_of(alloc, tree, sets, weights)?;
-        let one = table_of(alloc, sets, Player::One)?;
-        let two = table_of(alloc, sets, Player::Two)?;
-        SeqForm::with_threads(alloc, one, two, leaves)
+        let parts = parts_of(alloc, tree, sets, weights)?;
+        SeqForm::with_threads(alloc, parts)
     }
 
     /// The same with sets that aren't needed any more. They are given back before the leaves are threaded.
@@ -81,29 +107,32 @@ impl SeqForm {
         requires mass { sum (map unsigned_abs weights.now) ≤ most_mass }
         ensures { IfOk result (λ form. form ≡ form_of tree.now weights.now) }
     {
-        let leaves = leaves_of(alloc, tree, &sets, weights)?;
-        let one = table_of(alloc, &sets, Player::One)?;
-        let two = table_of(alloc, &sets, Player::Two)?;
+        let parts = parts_of(alloc, tree, &sets, weights)?;
         drop(sets);
-        SeqForm::with_threads(alloc, one, two, leaves)
+        SeqForm::with_threads(alloc, parts)
     }
 
-    // The form of these sets and leaves.
-    fn with_threads(
-        alloc: Global,
-        one: SetPlaces,
-        two: SetPlaces,
-        leaves: Vec<Leaf>,
-    ) -> Result<SeqForm, AllocError>
-        requires { KeepsLeaves (form_with one two leaves.items) }
-        ensures { IfOk result (λ form. form ≡ form_with one two leaves.items) }
+    // The form of these parts.
+    fn with_threads(alloc: Global, parts: FormParts) -> Result<SeqForm, AllocError>
+        requires { KeepsLeaves (form_of_parts parts) }
+        ensures { IfOk result (λ form. form ≡ form_of_parts parts) }
     {
-        let threads_one = threads_of(alloc, &leaves, Player::One, one.sequence_count())?;
-        let threads_two = threads_of(alloc, &leaves, Player::Two, two.sequence_count())?;
+        let threads_one = threads_of(
+            alloc,
+            &parts.leaves,
+            Player::One,
+            parts.one.sequence_count(),
+        )?;
+        let threads_two = threads_of(
+            alloc,
+            &parts.leaves,
+            Player::Two,
+            parts.two.sequence_count(),
+        )?;
         Ok(SeqForm {
-            one,
-            two,
-            leaves,
+            one: parts.one,
+            two: parts.two,
+            leaves: parts.leaves,
             threads_one,
             threads_two,
         })
