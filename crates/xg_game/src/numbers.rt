@@ -72,26 +72,19 @@ impl PlacedNumbers {
         ensures place { result ≡ position (nat_eq number) self.now }
         ensures within { IfSome result (λ i. i < length self.now) }
     {
-        let mark = self.mark(number);
+        let near = near_mark(&self.near, number);
+        let mark = if near != 0 || number > self.greatest {
+            near
+        } else {
+            match self.far.get(&number) {
+                Some(mark) => *mark,
+                None => 0,
+            }
+        };
         if mark == 0 {
             return None;
         }
         Some(mark as usize - 1)
-    }
-
-    /// The mark of this number.
-    #[inline(always)]
-    fn mark(&self, number: u64) -> u32
-        ensures { result ≡ marked (position (nat_eq number) self.now) }
-    {
-        let mark = near_mark(&self.near, number);
-        if mark != 0 || number > self.greatest {
-            return mark;
-        }
-        match self.far.get(&number) {
-            Some(mark) => *mark,
-            None => 0,
-        }
     }
 
     /// Puts a number last, which stands in this file.

@@ -98,15 +98,6 @@ impl OutcomeTable {
         self.outcomes.get(i)
     }
 
-    /// Whether the entry is the first to mention its outcome, and has no payoffs.
-    #[inline(always)]
-    pub(crate) fn is_undefined(&self, entry: &EntryView<'_>, place: Option<usize>) -> bool
-        requires { place ≡ place_of_outcome entry.now.outcome self.now }
-        ensures { result ≡ faults.is_outcome_undefined self.now (entry_seen entry.now).outcome }
-    {
-        entry.outcome != 0 && place.is_none() && entry.payoffs.is_none()
-    }
-
     /// Whether the entry has another name or other payoffs than are kept of its outcome.
     #[inline(always)]
     pub(crate) fn differs(&self, entry: &EntryView<'_>, place: Option<usize>) -> bool

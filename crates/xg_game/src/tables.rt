@@ -85,16 +85,17 @@ impl ContentTables {
         ensures { result ≡ faults.record_fault self.now (entry_seen entry.now) }
     {
         let node = self.names.len() as u32 + 1;
+        let kind = mover(entry.kind, entry.player);
         if is_no_player(entry.kind, entry.player) {
             return Some(FileFault::PlayerNumber { node });
         }
-        if self.is_set_undefined(entry, places.set) {
+        if has_set(entry.kind) && places.set.is_none() && entry.actions.is_none() {
             return Some(FileFault::SetUndefined { node });
         }
-        if self.set_differs(entry, places.set) {
+        if has_set(entry.kind) && self.sets.of(kind).differs(kind, entry, places.set) {
             return Some(FileFault::SetMismatch { node });
         }
-        if self.outcomes.is_undefined(entry, places.outcome) {
+        if entry.outcome != 0 && places.outcome.is_none() && entry.payoffs.is_none() {
             return Some(FileFault::OutcomeUndefined { node });
         }
         if self.outcomes.differs(entry, places.outcome) {
@@ -110,27 +111,6 @@ impl ContentTables {
             return Some(FileFault::ActionCount { node });
         }
         None
-    }
-
-    #[inline(always)]
-    fn is_set_undefined(&self, entry: &EntryView<'_>, place: Option<usize>) -> bool
-        requires { place ≡ place_of_set (entry_seen entry.now) self.now.sets }
-        ensures { let r = entry_seen entry.now in
-            let table = sets_of_kind (faults.mover r) self.now.sets in
-            result ≡ faults.has_set r.kind && faults.is_set_undefined table r.set }
-    {
-        has_set(entry.kind) && place.is_none() && entry.actions.is_none()
-    }
-
-    #[inline(always)]
-    fn set_differs(&self, entry: &EntryView<'_>, place: Option<usize>) -> bool
-        requires { place ≡ place_of_set (entry_seen entry.now) self.now.sets }
-        ensures { let r = entry_seen entry.now in
-            let table = sets_of_kind (faults.mover r) self.now.sets in
-            result ≡ faults.has_set r.kind && faults.set_differs (faults.mover r) table r.set }
-    {
-        let kind = mover(entry.kind, entry.player);
-        has_set(entry.kind) && self.sets.of(kind).differs(kind, entry, place)
     }
 
     #[inline(always)]
