@@ -107,9 +107,9 @@ impl SeqForm {
         requires mass { sum (map unsigned_abs weights.now) ≤ most_mass }
         ensures { IfOk result (λ form. form ≡ form_of tree.now weights.now) }
     {
-        let parts = parts_of(alloc, tree, &sets, weights)?;
-        drop(sets);
-        SeqForm::with_threads(alloc, parts)
+        let parts = parts_of(alloc, tree, &sets, weights);
+        sets.discard();
+        SeqForm::with_threads(alloc, parts?)
     }
 
     // The form of these parts.

@@ -45,6 +45,11 @@ impl Sets {
         }
     }
 
+    /// Lets go of the sets, as `drop` does. A caller that drops them itself has code of its own for each table.
+    pub fn discard(self) {
+        drop(self);
+    }
+
     /// The number of the player's sets.
     pub fn count(&self, player: Player) -> u32
         ensures { result ≡ length (of_player player self.now).sets }
