@@ -1,8 +1,11 @@
 pub mod Actions
+pub mod Deals
+pub mod HandAsPut
 pub mod Marks
 pub mod NamedNodes
 pub mod PlainBytesStay
 pub mod Ranges
+pub mod EntriesInOrder
 pub mod EntriesTakenInPieces
 pub mod PokerEntriesMakeGame
 pub mod Written

@@ -28,15 +28,6 @@ map_append : (f : ℕ → Action) (xs ys : List ℕ) → map f (xs ++ ys) ≡ ma
 map_append f [] ys = refl
 map_append f (x ∷ xs) ys = ap (λ l. f x ∷ l) (map_append f xs ys)
 
--- an action more
-pub card_pushed : (f : ℕ → Action) (n a : ℕ) (actions new all : List Action) → a < n + 1
-    → actions ++ map f (range_with_len a (n + 1 - a)) ≡ all → new ≡ actions ++ f a ∷ []
-    → new ++ map f (range_with_len (a + 1) (n + 1 - (a + 1))) ≡ all
-card_pushed f n a actions new all low so_far push =
-    ap (λ (l : List Action). l ++ map f (range_with_len (a + 1) (n + 1 - (a + 1)))) push
-    ∙ append_assoc actions (f a ∷ []) (map f (range_with_len (a + 1) (n + 1 - (a + 1))))
-    ∙ ap (λ l. actions ++ map f l) (sym (range_next n a low)) ∙ so_far
-
 -- the actions so far and those of the cards from a on, all but card i, still make all when that of card a moves over
 pub other_pushed : (f : ℕ → Action) (n i a : ℕ) (actions new all : List Action) → a < n + 1
     → actions ++ map f (cards_without i (range_with_len a (n + 1 - a))) ≡ all

@@ -1,14 +1,16 @@
 //! One-card poker.
-ghost use Rattle.std.specs.Prelude.{◌≡◌, ◌≤◌, [], ◌∷◌, IfOk, OnOk};
+ghost use Rattle.std.specs.Prelude.{◌≡◌, ◌-◌, ◌≤◌, [], ◌∷◌, map, codes, IfOk, OnOk};
+ghost use Rattle.def_fraction.specs.Fraction.{most};
 ghost use Rattle.def_sums.specs.Limits.{least_cards, most_cards};
 ghost use Rattle.def_file.specs.Content.{chance_record};
 ghost use Rattle.def_canon.specs.Poker as def;
-ghost use Rattle.xg_gen.specs.Again.{AreOutcomes, AreOwnSets};
+ghost use Rattle.xg_gen.specs.Again.{AreCommon, ArePlayerSets};
+ghost use Rattle.xg_gen.specs.Described.{mention_of_set};
 ghost use Rattle.xg_gen.specs.Taken.{GainsEntries, Takes};
 
-use crate::again::{Outcomes, OwnSets};
-use crate::entries::{put_hand, put_move};
-use crate::mentions::{deal_one, deal_two};
+use crate::again::{Common, PlayerSets};
+use crate::entries::{Entry, put_all, put_entry};
+use crate::mentions::{NamedSet, dealt_cards};
 use crate::texts::{numbered, plain};
 use std::alloc::{AllocError, Global};
 use xg_game::{Game, GameMaker};
@@ -20,7 +22,7 @@ pub fn one_card_poker(alloc: Global, n: u32) -> Result<Game, AllocError>
     requires high { n ≤ most_cards }
     ensures { IfOk result (λ game. game ≡ def.poker n) }
 {
-    let title = numbered(alloc, b"One-card poker ", n)?;
+    let title = numbered(alloc, b"One-card poker ", n, b"")?;
     let one = plain(alloc, b"One")?;
     let two = plain(alloc, b"Two")?;
     let comment = plain(alloc, b"")?;
@@ -35,26 +37,38 @@ pub fn one_card_poker(alloc: Global, n: u32) -> Result<Game, AllocError>
 }
 
 /// All entries.
-#[tactic(auto, using(crate::proofs::EntriesTakenInPieces::takes_one, crate::proofs::EntriesTakenInPieces::takes_more, crate::proofs::EntriesTakenInPieces::adds_more), unfolding(def_canon::specs::Poker::entries))]
 fn put_entries(maker: &mut GameMaker, alloc: Global, n: u32) -> Result<(), AllocError>
     requires low { least_cards ≤ n }
     requires high { n ≤ most_cards }
     requires takes { Takes maker.old (def.entries n) }
     ensures { OnOk result (GainsEntries maker.old maker.new (def.entries n)) }
 {
-    let outcomes = Outcomes::new(alloc)?;
-    put_deal_one(maker, alloc, n)?;
-    put_rounds(maker, alloc, n, &outcomes)
+    let name = plain(alloc, b"deal one")?;
+    put_deal(maker, alloc, NamedSet { number: 1, name }, n, 0, n)?;
+    let common = Common::new(alloc)?;
+    put_rounds(maker, alloc, n, &common)
 }
 
-fn put_deal_one(maker: &mut GameMaker, alloc: Global, n: u32) -> Result<(), AllocError>
-    requires low { least_cards ≤ n }
+/// Chance deals a card other than this one, out of so many.
+fn put_deal(
+    maker: &mut GameMaker,
+    alloc: Global,
+    set: NamedSet,
+    n: u32,
+    without: u32,
+    choices: u32,
+) -> Result<(), AllocError>
     requires high { n ≤ most_cards }
-    requires takes { Takes maker.old (chance_record (def.deal_one n) ∷ []) }
-    ensures { OnOk result (GainsEntries maker.old maker.new (chance_record (def.deal_one n) ∷ [])) }
+    requires choices { 1 ≤ choices }
+    requires from_one { 1 ≤ set.number }
+    requires set { set.number ≤ most }
+    requires takes { let actions = map (def.dealt_card choices) (def.others n without) in
+        Takes maker.old (chance_record (mention_of_set set actions) ∷ []) }
+    ensures { let actions = map (def.dealt_card choices) (def.others n without) in
+        OnOk result (GainsEntries maker.old maker.new (chance_record (mention_of_set set actions) ∷ [])) }
 {
-    let set = deal_one(alloc, n)?;
-    put_move(maker, alloc, EntryKind::Chance, 0, &set)
+    let actions = dealt_cards(alloc, n, without, choices)?;
+    put_entry(maker, Entry::Move(EntryKind::Chance, 0, &set, &actions))
 }
 
 /// Each card for player one, and all that follows.
@@ -62,97 +76,120 @@ fn put_rounds(
     maker: &mut GameMaker,
     alloc: Global,
     n: u32,
-    outcomes: &Outcomes,
+    common: &Common,
 ) -> Result<(), AllocError>
     requires low { least_cards ≤ n }
     requires high { n ≤ most_cards }
-    requires outcomes { AreOutcomes outcomes.now }
+    requires common { AreCommon common.now }
     requires takes { Takes maker.old (def.rounds_with_cards n (def.cards n)) }
     ensures { OnOk result (GainsEntries maker.old maker.new (def.rounds_with_cards n (def.cards n))) }
 {
     'rounds: for i in 1..n + 1 {
-        put_round(maker, alloc, n, i, outcomes)?;
+        put_round(maker, alloc, n, i, common)?;
     }
     Ok(())
 }
 
 /// Card `i` for player one, and all that follows.
-#[tactic(auto, using(crate::proofs::EntriesTakenInPieces::takes_one, crate::proofs::EntriesTakenInPieces::takes_more, crate::proofs::EntriesTakenInPieces::adds_more))]
 fn put_round(
     maker: &mut GameMaker,
     alloc: Global,
     n: u32,
     i: u32,
-    outcomes: &Outcomes,
+    common: &Common,
 ) -> Result<(), AllocError>
     requires low { least_cards ≤ n }
     requires high { n ≤ most_cards }
     requires card { 1 ≤ i }
     requires there { i ≤ n }
-    requires outcomes { AreOutcomes outcomes.now }
+    requires common { AreCommon common.now }
     requires takes { Takes maker.old (chance_record (def.deal_two n i) ∷ def.hands n i (def.others n i)) }
     ensures { OnOk result (GainsEntries maker.old maker.new
         (chance_record (def.deal_two n i) ∷ def.hands n i (def.others n i))) }
 {
-    let own = OwnSets::of(alloc, n, i)?;
-    put_deal_two(maker, alloc, n, i)?;
-    put_hands(maker, alloc, n, i, &own, outcomes)
-}
-
-fn put_deal_two(maker: &mut GameMaker, alloc: Global, n: u32, i: u32) -> Result<(), AllocError>
-    requires low { least_cards ≤ n }
-    requires high { n ≤ most_cards }
-    requires card { i ≤ n }
-    requires takes { Takes maker.old (chance_record (def.deal_two n i) ∷ []) }
-    ensures { OnOk result (GainsEntries maker.old maker.new (chance_record (def.deal_two n i) ∷ [])) }
-{
-    let set = deal_two(alloc, n, i)?;
-    put_move(maker, alloc, EntryKind::Chance, 0, &set)
+    let name = numbered(alloc, b"deal two ", i, b"")?;
+    let number = 1 + i as u64;
+    put_deal(maker, alloc, NamedSet { number, name }, n, i, n - 1)?;
+    let own = PlayerSets::of(alloc, n, i, b"", b" cb")?;
+    put_hands(maker, alloc, n, i, &own, &*common)
 }
 
 /// The play of player one's card `i` against each other card.
-fn put_hands(
+fn put_hands<'a>(
     maker: &mut GameMaker,
     alloc: Global,
     n: u32,
     i: u32,
-    own: &OwnSets,
-    outcomes: &Outcomes,
+    own: &'a PlayerSets,
+    common: &'a Common,
 ) -> Result<(), AllocError>
     requires low { least_cards ≤ n }
     requires high { n ≤ most_cards }
     requires card { 1 ≤ i }
-    requires own { AreOwnSets n i own.now }
-    requires outcomes { AreOutcomes outcomes.now }
+    requires there { i ≤ n }
+    requires own { ArePlayerSets n i [] (codes " cb") own.now }
+    requires common { AreCommon common.now }
     requires takes { Takes maker.old (def.hands n i (def.others n i)) }
     ensures { OnOk result (GainsEntries maker.old maker.new (def.hands n i (def.others n i))) }
 {
     'hands: for j in 1..n + 1 {
-        put_other_hand(maker, alloc, n, i, j, own, outcomes)?;
+        put_hand(maker, alloc, n, i, j, own, common)?;
     }
     Ok(())
 }
 
-/// The play of two cards, unless they are one.
-fn put_other_hand(
+/// The play where player one has card `i` and player two has card `j`, unless they are one.
+fn put_hand<'a>(
     maker: &mut GameMaker,
     alloc: Global,
     n: u32,
     i: u32,
     j: u32,
-    own: &OwnSets,
-    outcomes: &Outcomes,
+    own: &'a PlayerSets,
+    common: &'a Common,
 ) -> Result<(), AllocError>
     requires one { 1 ≤ i }
     requires two { 1 ≤ j }
-    requires own { AreOwnSets n i own.now }
-    requires outcomes { AreOutcomes outcomes.now }
+    requires own { ArePlayerSets n i [] (codes " cb") own.now }
+    requires common { AreCommon common.now }
     requires takes { Takes maker.old (def.hands n i (def.cards_without i (j ∷ []))) }
     ensures { OnOk result (GainsEntries maker.old maker.new (def.hands n i (def.cards_without i (j ∷ [])))) }
 {
     if i == j {
         return Ok(());
     }
-    put_hand(maker, alloc, n, i, j, own, outcomes)?;
-    Ok(())
+    let other = PlayerSets::of(alloc, n, j, b" c", b" b")?;
+    let won = common.higher(i, j);
+    let entries = [
+        Entry::Move(
+            EntryKind::Personal,
+            1,
+            &own.before_bet,
+            &common.check_or_bet,
+        ),
+        Entry::Move(
+            EntryKind::Personal,
+            2,
+            &other.before_bet,
+            &common.check_or_bet,
+        ),
+        Entry::End(&won.one),
+        Entry::Move(
+            EntryKind::Personal,
+            1,
+            &own.facing_bet,
+            &common.fold_or_call,
+        ),
+        Entry::End(&common.by_two.one),
+        Entry::End(&won.two),
+        Entry::Move(
+            EntryKind::Personal,
+            2,
+            &other.facing_bet,
+            &common.fold_or_call,
+        ),
+        Entry::End(&common.by_one.one),
+        Entry::End(&won.two),
+    ];
+    put_all(maker, &entries)
 }

@@ -1,5 +1,8 @@
 use Rattle.std.proofs.Common.{ap, ◌∙◌}
 use Rattle.xg_game.specs.Made.{Made}
+use Rattle.std.specs.Prelude.{codes}
+use Rattle.std.specs.Fmt.{decimal}
+use Rattle.xg_gen.proofs.Deals.{ends_there}
 use Rattle.xg_gen.proofs.PokerEntriesMakeGame.{new_takes, prologue_as_made, then_game, then_whole}
 use Rattle.xg_gen.proofs.poker.one_card_poker.Goals as goal
 
@@ -21,6 +24,6 @@ pub returns-in-Ok : goal.returns-in-Ok
 returns-in-Ok c =
     c.finish.ensures
     ∙ then_game c.args.n c.new-maker.result c.put_entries.new.maker (ap (λ (m : Made). m.contents) c.new-maker.ensures)
-    (ap (λ (m : Made). m.prologue) c.new-maker.ensures ∙ prologue_as_made c.args.n _ _ _ _ c.in_ok-title.ensures c.in_ok-one.ensures c.in_ok-two.ensures
+    (ap (λ (m : Made). m.prologue) c.new-maker.ensures ∙ prologue_as_made c.args.n _ _ _ _ (ends_there (codes "One-card poker ") (decimal c.args.n) _ c.in_ok-title.ensures) c.in_ok-one.ensures c.in_ok-two.ensures
     c.in_ok-comment.ensures)
     c.in-Ok.ensures
