@@ -8,4 +8,5 @@ pub mod Ranges
 pub mod EntriesInOrder
 pub mod EntriesTakenInPieces
 pub mod PokerEntriesMakeGame
+pub mod ItemTokens
 pub mod Written

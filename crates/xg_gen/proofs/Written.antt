@@ -7,7 +7,7 @@ use Rattle.std.proofs.lemmas.List.{append-nil, drop_all, drop_more}
 use Rattle.def_outside.specs.Sinks.{AppendsPrefix, Writes}
 use Rattle.def_outside.proofs.Fronts.{append_known-nil}
 use Rattle.xg_io.proofs.KnownBytesInPieces.{Progress, whole}
-use Rattle.xg_io.proofs.Pieces.{prefix_first, then_rest, goes_on, fails}
+use Rattle.xg_io.proofs.Pieces.{prefix_first, prefix_then, then_rest, goes_on, fails}
 use Rattle.def_file_tokens.specs.declared.Token.{Token}
 use Rattle.def_file_tokens.specs.declared.Token.TheVariants.{Number, Text}
 use Rattle.def_file_tokens.specs.Texts.{escaped}
@@ -113,6 +113,27 @@ pub then_piece : {T E : Type 0} (before middle now : Option (List ℕ)) (p : Pie
     → middle ≡ append_known before (text_of_pieces (p ∷ [])) → Writes middle now (text_of_pieces qs) r
     → Writes before now (text_of_pieces (p ∷ qs)) r
 then_piece before middle now p qs r e w = then_part before middle now (p ∷ []) qs r e w
+
+-- the first tokens of all, or a front of them
+pub first_tokens : (before now : Option (List ℕ)) (ps qs all : List Piece) → ps ++ qs ≡ all
+    → AppendsPrefix before now (text_of_pieces ps) → AppendsPrefix before now (text_of_pieces all)
+first_tokens before now ps qs all is p = subst (λ (t : List Piece). AppendsPrefix before now (text_of_pieces t)) is (first_part before now ps qs p)
+
+-- the first tokens of all, and a front of the others
+pub then_front : (before middle now : Option (List ℕ)) (ps qs all : List Piece) → ps ++ qs ≡ all
+    → middle ≡ append_known before (text_of_pieces ps) → AppendsPrefix middle now (text_of_pieces qs)
+    → AppendsPrefix before now (text_of_pieces all)
+then_front before middle now ps qs all is e p =
+    subst (AppendsPrefix before now) (text_of-append ps qs ∙ ap text_of_pieces is)
+    (prefix_then before middle now (text_of_pieces ps) (text_of_pieces qs) e p)
+
+-- the first tokens of all, and then the others
+pub then_tokens : {T E : Type 0} (before middle now : Option (List ℕ)) (ps qs all : List Piece) (r : Result T E)
+    → ps ++ qs ≡ all
+    → middle ≡ append_known before (text_of_pieces ps) → Writes middle now (text_of_pieces qs) r
+    → Writes before now (text_of_pieces all) r
+then_tokens before middle now ps qs all r is e w =
+    subst (λ (t : List Piece). Writes before now (text_of_pieces t) r) is (then_part before middle now ps qs r e w)
 
 -- all tokens, and then the last line feed
 canon_parts : (game : GameFile) → text_of_pieces (game_pieces game) ++ codes "\n" ≡ canon game

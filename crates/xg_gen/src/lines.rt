@@ -1,19 +1,18 @@
 //! The line of a node.
-ghost use Rattle.std.specs.Prelude.{◌≢◌, ◌-◌, ◌≤◌, [], ◌∷◌, length, slice_index_or};
+ghost use Rattle.std.specs.Prelude.{◌≢◌, ◌-◌, ◌≤◌, length, slice_index_or};
 ghost use Rattle.def_outside.specs.Cause.{HasCause};
 ghost use Rattle.def_file.specs.Content.{sets_of_kind};
 ghost use Rattle.def_file.specs.Faults.{set_at};
 ghost use Rattle.def_file.specs.Game.{GoesWith};
-ghost use Rattle.def_canon.specs.Canon.{action_pieces, chance_pieces, each, letter};
-ghost use Rattle.def_canon.specs.Canon.{node_pieces, outcome_pieces, payoffs_pieces, place_pieces, player_pieces};
-ghost use Rattle.def_canon.specs.Canon.{set_pieces, text_of_pieces};
+ghost use Rattle.def_canon.specs.Canon.{action_pieces, each, node_pieces, outcome_pieces, place_pieces, set_pieces};
+ghost use Rattle.def_canon.specs.Canon.{text_of_pieces};
 ghost use Rattle.def_outside.specs.Sinks.{Writes};
 ghost use Rattle.xg_gen.specs.Writes.{no_action};
 
-use crate::tokens::{put_close, put_comma, put_fraction, put_name, put_number, put_open, put_text};
-use xg_frac::Frac;
+use crate::items::{Item, Mark, put_item, put_items};
+use crate::tokens::{put_fraction, put_number, put_text};
 use xg_game::Game;
-use xg_io::{Sink, WriteFault, write_all};
+use xg_io::{Sink, WriteFault};
 use xg_tree::{Kind, Node, Player};
 
 /// The line of a node with this name.
@@ -28,37 +27,14 @@ pub(crate) fn put_node<O: Sink>(
         (text_of_pieces (node_pieces game.now.sets game.now.outcomes node name.now)) result }
     ensures cause { HasCause (O.faults out.old) (O.faults out.new) result }
 {
-    put_letter(node.kind, out)?;
-    put_text(name, out)?;
-    put_player(node.kind, out)?;
+    let items = [
+        Item::Mark(Mark::Letter(node.kind)),
+        Item::Text(name),
+        Item::Mover(node.kind),
+    ];
+    put_items(&items, out)?;
     put_place(game, node.kind, node.set, out)?;
     put_outcome(game, node.outcome, out)
-}
-
-/// The letter of a kind of node, on a new line.
-#[tactic(auto, unfolding(def_canon::specs::Canon::text_of_pieces))]
-fn put_letter<O: Sink>(kind: Kind, out: &mut O) -> Result<(), WriteFault>
-    ensures text { Writes (O.written out.old) (O.written out.new) (text_of_pieces (letter kind ∷ [])) result }
-    ensures cause { HasCause (O.faults out.old) (O.faults out.new) result }
-{
-    match kind {
-        Kind::Chance => write_all(out, b"\nc"),
-        Kind::One | Kind::Two => write_all(out, b"\np"),
-        Kind::Leaf => write_all(out, b"\nt"),
-    }
-}
-
-/// The number of the player who moves, if one does.
-#[tactic(auto, using(crate::proofs::Written::nothing), unfolding(def_canon::specs::Canon::player_pieces))]
-fn put_player<O: Sink>(kind: Kind, out: &mut O) -> Result<(), WriteFault>
-    ensures text { Writes (O.written out.old) (O.written out.new) (text_of_pieces (player_pieces kind)) result }
-    ensures cause { HasCause (O.faults out.old) (O.faults out.new) result }
-{
-    match kind {
-        Kind::One => put_number(1, out),
-        Kind::Two => put_number(2, out),
-        Kind::Chance | Kind::Leaf => Ok(()),
-    }
 }
 
 /// The set of a node, unless it is a leaf.
@@ -85,11 +61,14 @@ fn put_set<O: Sink>(game: &Game, kind: Kind, set: u32, out: &mut O) -> Result<()
         Writes (O.written out.old) (O.written out.new) (text_of_pieces (set_pieces kind entry)) result }
     ensures cause { HasCause (O.faults out.old) (O.faults out.new) result }
 {
-    put_number(game.set_number(kind, set), out)?;
-    put_name(game.set_name(kind, set), out)?;
-    put_open(out)?;
+    let items = [
+        Item::Number(game.set_number(kind, set)),
+        Item::Name(game.set_name(kind, set)),
+        Item::Mark(Mark::Open),
+    ];
+    put_items(&items, out)?;
     put_actions(game, kind, set, out)?;
-    put_close(out)
+    put_item(&Item::Mark(Mark::Close), out)
 }
 
 /// The actions of a set.
@@ -146,23 +125,14 @@ fn put_outcome<O: Sink>(game: &Game, outcome: u32, out: &mut O) -> Result<(), Wr
     if outcome == 0 {
         return put_number(0, out);
     }
-    put_number(game.outcome_number(outcome), out)?;
-    put_name(game.outcome_name(outcome), out)?;
-    put_payoffs(
-        game.payoff(outcome, Player::One),
-        game.payoff(outcome, Player::Two),
-        out,
-    )
-}
-
-/// The payoffs of an outcome in braces.
-fn put_payoffs<O: Sink>(one: Frac, two: Frac, out: &mut O) -> Result<(), WriteFault>
-    ensures text { Writes (O.written out.old) (O.written out.new) (text_of_pieces (payoffs_pieces one two)) result }
-    ensures cause { HasCause (O.faults out.old) (O.faults out.new) result }
-{
-    put_open(out)?;
-    put_fraction(one, out)?;
-    put_comma(out)?;
-    put_fraction(two, out)?;
-    put_close(out)
+    let items = [
+        Item::Number(game.outcome_number(outcome)),
+        Item::Name(game.outcome_name(outcome)),
+        Item::Mark(Mark::Open),
+        Item::Fraction(game.payoff(outcome, Player::One)),
+        Item::Mark(Mark::Comma),
+        Item::Fraction(game.payoff(outcome, Player::Two)),
+        Item::Mark(Mark::Close),
+    ];
+    put_items(&items, out)
 }

@@ -1,50 +1,14 @@
 //! Tokens of the canonical form, each behind its white space.
 ghost use Rattle.std.specs.Prelude.{[], ◌∷◌, ◌++◌};
-ghost use Rattle.std.specs.Option.{option_map};
 ghost use Rattle.def_outside.specs.Cause.{HasCause};
 ghost use Rattle.def_file_tokens.specs.Texts.{escaped};
-ghost use Rattle.def_canon.specs.Canon.{close_piece, comma_piece, fraction, marker_pieces, name_pieces, on_new_line};
-ghost use Rattle.def_canon.specs.Canon.{open_piece, quoted, text_piece, text_of_pieces, whole_piece};
-ghost use Rattle.def_file_tokens.specs.declared.Token.TheVariants.{Text};
+ghost use Rattle.def_canon.specs.Canon.{fraction, text_piece, text_of_pieces, whole_piece};
 ghost use Rattle.def_outside.specs.Sinks.{Writes};
 
 use itoa::Buffer;
 use memchr::memchr;
 use xg_frac::{Frac, put_frac};
 use xg_io::{Sink, WriteFault, write_all};
-
-/// The first three words of a file.
-#[tactic(auto, unfolding(def_canon::specs::Canon::text_of_pieces, def_canon::specs::Canon::marker_pieces))]
-pub(crate) fn put_marker<O: Sink>(out: &mut O) -> Result<(), WriteFault>
-    ensures text { Writes (O.written out.old) (O.written out.new) (text_of_pieces marker_pieces) result }
-    ensures cause { HasCause (O.faults out.old) (O.faults out.new) result }
-{
-    write_all(out, b"EFG 2 R")
-}
-
-#[tactic(auto, unfolding(def_canon::specs::Canon::text_of_pieces))]
-pub(crate) fn put_open<O: Sink>(out: &mut O) -> Result<(), WriteFault>
-    ensures text { Writes (O.written out.old) (O.written out.new) (text_of_pieces (open_piece ∷ [])) result }
-    ensures cause { HasCause (O.faults out.old) (O.faults out.new) result }
-{
-    write_all(out, b" {")
-}
-
-#[tactic(auto, unfolding(def_canon::specs::Canon::text_of_pieces))]
-pub(crate) fn put_close<O: Sink>(out: &mut O) -> Result<(), WriteFault>
-    ensures text { Writes (O.written out.old) (O.written out.new) (text_of_pieces (close_piece ∷ [])) result }
-    ensures cause { HasCause (O.faults out.old) (O.faults out.new) result }
-{
-    write_all(out, b" }")
-}
-
-#[tactic(auto, unfolding(def_canon::specs::Canon::text_of_pieces))]
-pub(crate) fn put_comma<O: Sink>(out: &mut O) -> Result<(), WriteFault>
-    ensures text { Writes (O.written out.old) (O.written out.new) (text_of_pieces (comma_piece ∷ [])) result }
-    ensures cause { HasCause (O.faults out.old) (O.faults out.new) result }
-{
-    write_all(out, b",")
-}
 
 /// A whole number. Most are the number of a player or of the null outcome, which take one write.
 pub(crate) fn put_number<O: Sink>(n: u64, out: &mut O) -> Result<(), WriteFault>
@@ -88,31 +52,13 @@ pub(crate) fn put_text<O: Sink>(bytes: &[u8], out: &mut O) -> Result<(), WriteFa
     put_quoted(b" \"", bytes, out)
 }
 
-/// A text on a line of its own.
-pub(crate) fn put_text_line<O: Sink>(bytes: &[u8], out: &mut O) -> Result<(), WriteFault>
-    ensures text { Writes (O.written out.old) (O.written out.new)
-        (text_of_pieces (on_new_line Text (quoted bytes.now) ∷ [])) result }
-    ensures cause { HasCause (O.faults out.old) (O.faults out.new) result }
-{
-    put_quoted(b"\n\"", bytes, out)
-}
-
-/// A name, if there is one.
-#[tactic(auto, using(crate::proofs::Written::nothing), unfolding(def_canon::specs::Canon::name_pieces))]
-pub(crate) fn put_name<O: Sink>(name: Option<&[u8]>, out: &mut O) -> Result<(), WriteFault>
-    ensures text { Writes (O.written out.old) (O.written out.new)
-        (text_of_pieces (name_pieces (option_map (λ b. b.now) name.entry))) result }
-    ensures cause { HasCause (O.faults out.old) (O.faults out.new) result }
-{
-    match name {
-        Some(name) => put_text(name, out),
-        None => Ok(()),
-    }
-}
-
 /// Bytes behind an opening quotation mark and what stands before it, and a closing one.
 #[tactic(auto, using(xg_io::proofs::Pieces::prefix_first, xg_io::proofs::Pieces::then_rest))]
-fn put_quoted<O: Sink>(opening: &[u8], bytes: &[u8], out: &mut O) -> Result<(), WriteFault>
+pub(crate) fn put_quoted<O: Sink>(
+    opening: &[u8],
+    bytes: &[u8],
+    out: &mut O,
+) -> Result<(), WriteFault>
     ensures text { Writes (O.written out.old) (O.written out.new) (opening.now ++ (escaped bytes.now ++ 34 ∷ []))
         result }
     ensures cause { HasCause (O.faults out.old) (O.faults out.new) result }

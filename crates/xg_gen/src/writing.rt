@@ -7,8 +7,8 @@ ghost use Rattle.def_outside.specs.Sinks.{AppendsPrefix, Writes};
 ghost use Rattle.def_tree.specs.Tree.{prefix};
 ghost use Rattle.def_canon.specs.Canon.{canon, lines_pieces, prologue_pieces, text_of_pieces};
 
+use crate::items::{Item, Mark, put_items};
 use crate::lines::put_node;
-use crate::tokens::{put_close, put_marker, put_open, put_text, put_text_line};
 use xg_game::Game;
 use xg_io::{Sink, WriteFault, write_all};
 use xg_tree::Player;
@@ -38,13 +38,16 @@ fn put_prologue<O: Sink>(game: &Game, out: &mut O) -> Result<(), WriteFault>
         result }
     ensures cause { HasCause (O.faults out.old) (O.faults out.new) result }
 {
-    put_marker(out)?;
-    put_text(game.title(), out)?;
-    put_open(out)?;
-    put_text(game.player_name(Player::One), out)?;
-    put_text(game.player_name(Player::Two), out)?;
-    put_close(out)?;
-    put_text_line(game.comment(), out)
+    let items = [
+        Item::Mark(Mark::First),
+        Item::Text(game.title()),
+        Item::Mark(Mark::Open),
+        Item::Text(game.player_name(Player::One)),
+        Item::Text(game.player_name(Player::Two)),
+        Item::Mark(Mark::Close),
+        Item::Line(game.comment()),
+    ];
+    put_items(&items, out)
 }
 
 /// The lines of the nodes.

@@ -1,16 +1,14 @@
-use Rattle.std.proofs.Common.{arith}
-use Rattle.def_canon.specs.Canon.{described_outcome, outcome_pieces}
-use Rattle.xg_gen.proofs.Written.{first_part, first_piece, then_part, then_piece}
+use Rattle.std.proofs.Common.{List, subst}
+use Rattle.def_file_tokens.specs.Spelling.{Piece}
+use Rattle.def_outside.specs.Sinks.{Writes}
+use Rattle.def_canon.specs.Canon.{each, text_of_pieces}
+use Rattle.xg_gen.proofs.ItemTokens.{outcome_tokens}
 use Rattle.xg_gen.proofs.lines.put_outcome.Goals as goal
 
-pub returns-in_err-put_number-clause-text : goal.returns-in_err-put_number-clause-text
-unfolding described_outcome outcome_pieces
-returns-in_err-put_number-clause-text g c = grind (arith, first_part, first_piece, then_part, then_piece)
-
-pub returns-in_err-put_name-clause-text : goal.returns-in_err-put_name-clause-text
-unfolding described_outcome outcome_pieces
-returns-in_err-put_name-clause-text g c = grind (arith, first_part, first_piece, then_part, then_piece)
-
 pub returns-clause-text : goal.returns-clause-text
-unfolding described_outcome outcome_pieces
-returns-clause-text g c = grind (arith, first_part, first_piece, then_part, then_piece)
+unfolding each
+returns-clause-text g c =
+    subst (λ (ps : List Piece). Writes (g.O.Sink.written c.args.out.now) (g.O.Sink.written c.put_items.new.out) (text_of_pieces ps) c.put_items.result)
+    (outcome_tokens c.args.game.now.outcomes c.args.outcome _ _ _ _ c.if-outcome-eq0.false c.outcome_number.ensures c.outcome_name.ensures
+    c.payoff.ensures c.payoff-2.ensures)
+    c.put_items.ensures.text
