@@ -9,7 +9,7 @@ ghost use Rattle.xg_read.specs.Gives.{Gives, GivesFor};
 ghost use Rattle.xg_read.specs.Mentions.{HasNumbers, outcome_mention_of, set_mention_of};
 
 use crate::reader::Reader;
-use crate::wanted::Wanted;
+use crate::wanted::{Wanted, is_exact};
 use def_file::{EntryKind, FileFault};
 use std::alloc::Global;
 use xg_game::Refused;
@@ -109,10 +109,10 @@ impl<'a> Reader<'a> {
         ensures whole { self.new.whole ≡ self.old.whole }
     {
         let head = self.token(Wanted::Head)?;
-        if self.is_exact(Token::Word, b"c", head) {
+        if is_exact(Token::Word, b"c", self.bytes(), head) {
             return Ok(EntryKind::Chance);
         }
-        if self.is_exact(Token::Word, b"p", head) {
+        if is_exact(Token::Word, b"p", self.bytes(), head) {
             return Ok(EntryKind::Personal);
         }
         Ok(EntryKind::Leaf)

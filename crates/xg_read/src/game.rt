@@ -44,7 +44,7 @@ fn read_file(alloc: Global, bytes: &[u8]) -> Result<Game, Refused>
     ensures { Answers result (game_at bytes.now) }
 {
     let mut reader = Reader::new(bytes);
-    let prologue = reader.prologue(alloc)?;
+    let prologue = reader.prologue()?.to_texts(alloc)?;
     let mut maker = GameMaker::new(
         alloc,
         prologue.title,

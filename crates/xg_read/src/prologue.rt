@@ -1,22 +1,30 @@
 //! The prologue of a file.
-ghost use Rattle.std.specs.Prelude.{◌≡◌, ℕ, ◌+◌, ◌-◌, ◌^◌, ◌<◌, ◌≤◌, [], ◌∷◌, ◌++◌, List, length};
+ghost use Rattle.std.specs.Prelude.{◌≡◌, ℕ, ◌+◌, ◌-◌, ◌^◌, ◌<◌, ◌≤◌, [], ◌∷◌, ◌++◌, List, length, IfOk};
 ghost use Rattle.def_file.specs.Reading.{names_from, prologue_at, most_bytes};
-ghost use Rattle.xg_read.specs.Gives.{GivesFor};
-ghost use Rattle.xg_read.specs.Mentions.{AreFirstNames, GivesNames, IsBoth, comment_at, read_prologue};
+ghost use Rattle.xg_read.specs.Gives.{GivesSeen};
+ghost use Rattle.xg_read.specs.Mentions.{AreFirstNames, GivesNames, IsBoth, prologue_of, read_prologue};
 
 use crate::reader::Reader;
 use crate::wanted::Wanted;
 use def_file::FileFault;
-use std::alloc::Global;
-use xg_game::Refused;
-use xg_lex::{Text, unescape};
+use std::alloc::{AllocError, Global};
+use xg_lex::{Text, TextView};
 
 /// The first two names of players, and how many there are.
 #[derive(Drop)]
-pub struct PlayerNames {
-    pub one: Option<Text>,
-    pub two: Option<Text>,
+pub struct PlayerNames<'a> {
+    pub one: Option<TextView<'a>>,
+    pub two: Option<TextView<'a>>,
     pub count: u32,
+}
+
+/// The texts of a prologue, where they stand.
+#[derive(Drop)]
+pub struct PrologueViews<'a> {
+    title: TextView<'a>,
+    one: TextView<'a>,
+    two: TextView<'a>,
+    comment: TextView<'a>,
 }
 
 /// The texts of a prologue.
@@ -28,10 +36,24 @@ pub struct PrologueTexts {
     pub comment: Text,
 }
 
+impl<'a> PrologueViews<'a> {
+    /// The same texts, apart from the file.
+    pub fn to_texts(&self, alloc: Global) -> Result<PrologueTexts, AllocError>
+        ensures { IfOk result (λ texts. read_prologue texts ≡ prologue_of self.now) }
+    {
+        Ok(PrologueTexts {
+            title: self.title.to_text(alloc)?,
+            one: self.one.to_text(alloc)?,
+            two: self.two.to_text(alloc)?,
+            comment: self.comment.to_text(alloc)?,
+        })
+    }
+}
+
 impl<'a> Reader<'a> {
     /// The players' names up to the closing brace.
     #[tactic(auto, using(crate::proofs::Names::names_closed, crate::proofs::Names::names_more, crate::proofs::Names::names_full), unfolding(def_file::specs::Reading::close_at))]
-    fn names(&mut self, alloc: Global) -> Result<PlayerNames, Refused>
+    fn names(&mut self) -> Result<PlayerNames<'a>, FileFault>
         requires { length self.old.whole ≤ most_bytes }
         ensures exact { GivesNames result self.new.at (names_from (length self.old.whole) [] self.old.whole
             self.old.at) }
@@ -48,20 +70,20 @@ impl<'a> Reader<'a> {
                 self.token(Wanted::Close)?;
                 return Ok(names);
             }
-            let text = self.next_text(alloc)?;
+            let text = self.next_view()?;
             names = with_name(names, text);
         }
-        Err(Refused::File(FileFault::UnexpectedEnd))
+        Err(FileFault::UnexpectedEnd)
     }
 }
 
 /// The names with one more.
 #[tactic(auto, using(crate::proofs::Names::first_named, crate::proofs::Names::second_named, crate::proofs::Names::other_named))]
-fn with_name(names: PlayerNames, text: Text) -> PlayerNames
+fn with_name<'a>(names: PlayerNames<'a>, text: TextView<'a>) -> PlayerNames<'a>
     requires { names.count < 2 ^ 32 - 1 }
-    ensures first { (done : List (List ℕ)) → AreFirstNames done names.one names.two names.count
-        → AreFirstNames (done ++ text ∷ []) result.one result.two result.count }
-    ensures count { result.count ≡ names.count + 1 }
+    ensures first { (done : List (List ℕ)) → AreFirstNames done names.entry.one names.entry.two names.entry.count
+        → AreFirstNames (done ++ text.entry ∷ []) result.one result.two result.count }
+    ensures count { result.count ≡ names.entry.count + 1 }
 {
     let PlayerNames { one, two, count } = names;
     match count {
@@ -86,52 +108,40 @@ fn with_name(names: PlayerNames, text: Text) -> PlayerNames
 /// The prologue.
 impl<'a> Reader<'a> {
     /// The prologue.
-    #[tactic(auto, unfolding(def_file::specs::Reading::prologue_at, def_file::specs::Reading::head_at, def_file::specs::Reading::behind_head))]
-    pub fn prologue(&mut self, alloc: Global) -> Result<PrologueTexts, Refused>
+    #[tactic(auto, using(crate::proofs::Texts::empty_inside), unfolding(def_file::specs::Reading::prologue_at, def_file::specs::Reading::head_at, def_file::specs::Reading::behind_head, def_file_tokens::specs::Texts::unescaped))]
+    pub fn prologue(&mut self) -> Result<PrologueViews<'a>, FileFault>
         requires { length self.old.whole ≤ most_bytes }
-        ensures exact { GivesFor read_prologue result self.new.at (prologue_at self.old.whole self.old.at) }
+        ensures exact { GivesSeen prologue_of result self.new.at (prologue_at self.old.whole self.old.at) }
         ensures whole { self.new.whole ≡ self.old.whole }
     {
         self.token(Wanted::Marker)?;
         self.token(Wanted::Version)?;
         self.token(Wanted::Numbers)?;
-        let title = self.next_text(alloc)?;
+        let title = self.next_view()?;
         self.token(Wanted::Open)?;
-        let names = self.names(alloc)?;
-        let players = both(names)?;
-        let comment = self.comment(alloc)?;
-        Ok(PrologueTexts {
+        let players = both(self.names()?)?;
+        // An absent comment is the empty text.
+        let comment = self.name_view()?.unwrap_or(TextView::of(b""));
+        Ok(PrologueViews {
             title,
             one: players.one,
             two: players.two,
             comment,
         })
     }
-
-    /// The comment. An absent one is the empty text.
-    #[tactic(auto, using(crate::proofs::Texts::empty_inside), unfolding(def_file_tokens::specs::Texts::unescaped))]
-    fn comment(&mut self, alloc: Global) -> Result<Text, Refused>
-        ensures exact { GivesFor (λ text. text) result self.new.at (comment_at self.old.whole self.old.at) }
-        ensures whole { self.new.whole ≡ self.old.whole }
-    {
-        match self.name_view()? {
-            Some(text) => Ok(text.to_text(alloc)?),
-            None => Ok(unescape(alloc, b"")?),
-        }
-    }
 }
 
 /// The names of both players.
 #[derive(Drop)]
-pub struct BothNames {
-    pub one: Text,
-    pub two: Text,
+pub struct BothNames<'a> {
+    pub one: TextView<'a>,
+    pub two: TextView<'a>,
 }
 
 /// The names of both players, where there are two names.
 #[tactic(auto, using(crate::proofs::Names::first_there, crate::proofs::Names::second_there, crate::proofs::Names::checked_two, crate::proofs::Names::checked_other))]
-fn both(names: PlayerNames) -> Result<BothNames, FileFault>
-    ensures { (done : List (List ℕ)) → AreFirstNames done names.one names.two names.count → IsBoth done result }
+fn both<'a>(names: PlayerNames<'a>) -> Result<BothNames<'a>, FileFault>
+    ensures { (done : List (List ℕ)) → AreFirstNames done names.entry.one names.entry.two names.entry.count → IsBoth done result }
 {
     let PlayerNames { one, two, count } = names;
     if count != 2 {

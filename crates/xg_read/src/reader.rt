@@ -1,10 +1,10 @@
 //! A reader of a file's tokens.
 ghost use Rattle.std.specs.Prelude.{◌≡◌, ◌+◌, ◌-◌, ◌≤◌, true, length, slice_range, IfOk};
 ghost use Rattle.def_file_tokens.specs.Texts.{IsInside};
-ghost use Rattle.def_file.specs.Reading.{is_exact, next_is, nothing_at, token_text, token_where, unfit};
+ghost use Rattle.def_file.specs.Reading.{next_is, nothing_at, token_text, token_where, unfit};
 ghost use Rattle.xg_read.specs.Wanted.{test_of};
 
-use crate::wanted::{Wanted, is_exact, is_kind};
+use crate::wanted::{Wanted, is_kind};
 use def_file::FileFault;
 use std::marker::Model;
 use xg_lex::{LexFault, Lexeme, TextView, Token, Tokens};
@@ -117,16 +117,6 @@ impl<'a> Reader<'a> {
         ensures { result.now ≡ slice_range self.now.whole token.start token.end }
     {
         &self.bytes[token.start..token.end]
-    }
-
-    /// Whether the token is of this kind and has these bytes.
-    #[inline(always)]
-    pub fn is_exact(&self, kind: Token, exact: &[u8], token: Lexeme) -> bool
-        requires order { token.start ≤ token.end }
-        requires within { token.end ≤ length self.now.whole }
-        ensures { result ≡ is_exact kind exact.now self.now.whole token }
-    {
-        is_exact(kind, exact, self.bytes, token)
     }
 
     /// The text that a text token stands for.

@@ -1,17 +1,15 @@
 //! Texts and numbers of a file.
 ghost use Rattle.def_fraction.specs.Fraction.{fits, most, whole_number};
 ghost use Rattle.def_fraction.specs.Reading.{read_as_literal, read_as_whole};
-ghost use Rattle.std.specs.Prelude.{◌≡◌, ◌≤◌, IfOk, IsTrue, Ok};
+ghost use Rattle.std.specs.Prelude.{◌≡◌, ◌≤◌, IfOk, IsTrue};
 ghost use Rattle.def_file.specs.Reading.{literal_at, name_at, read_as_set, set_number_at, text_at, whole_at};
-ghost use Rattle.xg_read.specs.Gives.{Gives, GivesFor};
+ghost use Rattle.xg_read.specs.Gives.{Gives};
 
 use crate::reader::Reader;
 use crate::wanted::Wanted;
 use def_file::FileFault;
-use std::alloc::Global;
 use xg_frac::{Frac, NumberFault, read_literal, read_whole, whole};
-use xg_game::Refused;
-use xg_lex::{Text, TextView};
+use xg_lex::TextView;
 
 impl<'a> Reader<'a> {
     /// The next text token's text, where it stands.
@@ -23,15 +21,6 @@ impl<'a> Reader<'a> {
     {
         let token = self.token(Wanted::Text)?;
         Ok(self.text(token))
-    }
-
-    /// The next text token's text.
-    pub fn next_text(&mut self, alloc: Global) -> Result<Text, Refused>
-        ensures exact { GivesFor (λ text. text) result self.new.at (text_at self.old.whole self.old.at) }
-        ensures whole { self.new.whole ≡ self.old.whole }
-    {
-        let text = self.next_view()?;
-        Ok(text.to_text(alloc)?)
     }
 
     /// A name where it stands, if one comes.
@@ -139,8 +128,8 @@ fn read_fraction(bytes: &[u8]) -> Result<Frac, NumberFault>
     ensures { result ≡ read_as_literal bytes.now }
 {
     match bytes {
-        [digit @ b'0'..=b'9'] => small((*digit - b'0') as i64),
-        [b'-', digit @ b'0'..=b'9'] => small(-((*digit - b'0') as i64)),
+        [digit @ b'0'..=b'9'] => Ok(small((*digit - b'0') as i64)),
+        [b'-', digit @ b'0'..=b'9'] => Ok(small(-((*digit - b'0') as i64))),
         _ => read_other(bytes),
     }
 }
@@ -155,9 +144,9 @@ fn read_other(bytes: &[u8]) -> Result<Frac, NumberFault>
 
 /// A whole number within the limit.
 #[inline(always)]
-fn small(number: i64) -> Result<Frac, NumberFault>
+fn small(number: i64) -> Frac
     requires { IsTrue (fits (whole_number number)) }
-    ensures { result ≡ Ok (whole_number number) }
+    ensures { result ≡ whole_number number }
 {
-    whole(number).map_err(|_| NumberFault::Range)
+    whole(number).unwrap()
 }

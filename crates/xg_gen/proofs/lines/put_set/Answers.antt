@@ -1,8 +1,7 @@
-use Rattle.std.proofs.Common.{◌-◌, [], ◌∷◌, ◌++◌, rules}
-use Rattle.std.specs.Prelude.{option_map}
+use Rattle.std.proofs.Common.{◌-◌, [], ◌∷◌, rules}
 use Rattle.def_file.specs.Content.{sets_of_kind}
 use Rattle.def_file.specs.Faults.{set_at}
-use Rattle.def_canon.specs.Canon.{action_pieces, close_piece, each, name_pieces, open_piece, whole_piece}
+use Rattle.def_canon.specs.Canon.{action_pieces, close_piece, each}
 use Rattle.xg_gen.proofs.ItemTokens.{set_tokens}
 use Rattle.xg_gen.proofs.Written.{first_part, first_tokens, then_front, then_part, then_tokens}
 use Rattle.xg_gen.proofs.lines.put_set.Goals as goal

@@ -12,6 +12,6 @@ names-preserved c =
       c.with_name-names.ensures.first done c.names.invariant.2,
       (let counted = c.names.invariant.3 in omega (arith, c.with_name-names.ensures.count, counted)),
       c.names.invariant.4 ∙ names_next (length whole - c.names.counter) (length whole - (c.names.counter + 1)) done text
-          whole c.names.self.whole c.names.self.at c.next_text.new.self.at c.names.invariant.1 (omega arith) (sym c.comes.ensures ∙ c.if-comes.false)
+          whole c.names.self.whole c.names.self.at c.next_view.new.self.at c.names.invariant.1 (omega arith) (sym c.comes.ensures ∙ c.if-comes.false)
           c.in_ok-text.ensures.exact,
     )
