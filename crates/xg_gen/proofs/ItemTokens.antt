@@ -41,7 +41,8 @@ pub set_tokens : (kind : Kind) (entry : SetEntry) (number : ℕ) (name : Option 
     ≡ set_pieces kind entry
 unfolding set_pieces list_pieces
 set_tokens kind entry number name en em =
-    ap (λ (ps : List Piece). whole_piece number ∷ ps) (append_assoc (name_pieces name) (open_piece ∷ []) (each (action_pieces kind) entry.actions ++ close_piece ∷ []))
+    ap (λ (ps : List Piece). whole_piece number ∷ ps)
+    (append_assoc (name_pieces name) (open_piece ∷ []) (each (action_pieces kind) entry.actions ++ close_piece ∷ []))
     ∙ (λ k. whole_piece (en k) ∷ (name_pieces (em k) ++ open_piece ∷ (each (action_pieces kind) entry.actions ++ close_piece ∷ [])))
 
 pub outcome_tokens : (outcomes : List OutcomeEntry) (n number : ℕ) (name : Option (List ℕ)) (one two : Fraction)

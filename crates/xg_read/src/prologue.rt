@@ -141,7 +141,8 @@ pub struct BothNames<'a> {
 /// The names of both players, where there are two names.
 #[tactic(auto, using(crate::proofs::Names::first_there, crate::proofs::Names::second_there, crate::proofs::Names::checked_two, crate::proofs::Names::checked_other))]
 fn both<'a>(names: PlayerNames<'a>) -> Result<BothNames<'a>, FileFault>
-    ensures { (done : List (List ℕ)) → AreFirstNames done names.entry.one names.entry.two names.entry.count → IsBoth done result }
+    ensures { (done : List (List ℕ)) → AreFirstNames done names.entry.one names.entry.two names.entry.count
+        → IsBoth done result }
 {
     let PlayerNames { one, two, count } = names;
     if count != 2 {

@@ -24,6 +24,7 @@ pub returns-in-Ok : goal.returns-in-Ok
 returns-in-Ok c =
     c.finish.ensures
     ∙ then_game c.args.n c.new-maker.result c.put_entries.new.maker (ap (λ (m : Made). m.contents) c.new-maker.ensures)
-    (ap (λ (m : Made). m.prologue) c.new-maker.ensures ∙ prologue_as_made c.args.n _ _ _ _ (ends_there (codes "One-card poker ") (decimal c.args.n) _ c.in_ok-title.ensures) c.in_ok-one.ensures c.in_ok-two.ensures
-    c.in_ok-comment.ensures)
+    (ap (λ (m : Made). m.prologue) c.new-maker.ensures
+    ∙ prologue_as_made c.args.n _ _ _ _ (ends_there (codes "One-card poker ") (decimal c.args.n) _ c.in_ok-title.ensures)
+    c.in_ok-one.ensures c.in_ok-two.ensures c.in_ok-comment.ensures)
     c.in-Ok.ensures
