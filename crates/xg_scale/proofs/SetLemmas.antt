@@ -1,11 +1,12 @@
 -- The walks over the chance sets: a set is asked at its first node, and stands for each of its nodes.
-use Rattle.std.proofs.Common.{◌≡◌, ℕ, suc, ◌+◌, ◌-◌, ◌<◌, ◌≤◌, max, Bool, true, false, cond, ◌&&◌, not, List, [], ◌∷◌, ◌++◌, length, take, drop, map, refl, ap}
+use Rattle.std.proofs.Common.{◌≡◌, ℕ, zero, suc, ◌+◌, ◌-◌, ◌<◌, ◌≤◌, max, Bool, true, false, cond, ◌&&◌, not, List, [], ◌∷◌, ◌++◌, length, take, drop, map, refl, ap}
 use Rattle.std.proofs.Common.{sym, subst, ◌∙◌, arith, inl, inr, ◌⊎◌, Some, None, slice_get}
 use Rattle.std.specs.Prelude.{nat_lt, ◌||◌}
 use Rattle.std.specs.List.{list_any}
 use Rattle.std.proofs.lemmas.Bool.{and_parts, cases_lt, ltb-true, ltb-false, true≢false}
 use Rattle.std.proofs.lemmas.List.{map-append}
-use Rattle.std.proofs.lemmas.Option.{get_or_from_slice_get}
+use Rattle.std.specs.Prelude.{option_map}
+use Rattle.std.proofs.lemmas.Option.{get_or_from_slice_get, slice_get-get_or, slice_get-map}
 use Rattle.std.proofs.Math.Seq.{drop-cons}
 use Rattle.def_tree.specs.declared.Kind.TheVariants.{Chance}
 use Rattle.def_tree.specs.declared.Node.{Node}
@@ -13,10 +14,14 @@ use Rattle.def_tree.specs.Tree.{Forest, node_count, prefix}
 use Rattle.def_tree.specs.Rules.{Fits, IsGameTree, is_same_kind, set_count}
 use Rattle.def_tree.proofs.Sets.{is_same_kind-true, set-le-next, set_count-push_same, set_count-push_other}
 use Rattle.def_fraction.specs.Fraction.{Fraction, fits, sum_of, zero_fraction}
+use Rattle.def_file.specs.Content.{GameFile}
+use Rattle.def_file.specs.Game.{IsWholeGame}
 use Rattle.def_file.specs.declared.FileFault.{FileFault}
 use Rattle.def_game_paths.specs.Paths.{Visit, visits}
-use Rattle.def_game_paths.specs.Coming.{visit_after}
+use Rattle.def_game_paths.specs.Coming.{no_visit, visit_after}
 use Rattle.def_game_paths.proofs.Coming.{IsNext, next_node, next_visit}
+use Rattle.def_game_paths.proofs.Visits.{map-visits_from}
+use Rattle.def_game_numbers.specs.Numbers.{tables_of}
 use Rattle.def_game_scale.specs.Tables.{Tables, probabilities}
 use Rattle.def_game_scale.specs.Faults.{ChanceNegative, ChanceSum, Scale, adding_fault, found_by, is_negative, is_one, number_after, passing}
 use Rattle.def_game_scale.proofs.Walks.{passed, passing_none}
@@ -24,7 +29,8 @@ use Rattle.xg_scale.specs.declared.chance.SetTest.{SetTest}
 use Rattle.xg_scale.specs.declared.chance.SetTest.TheVariants.{Signs, Sums}
 use Rattle.xg_scale.specs.Chance.{PassedSets, set_fault, node_test_of}
 use Rattle.xg_scale.specs.FaultOfFile.{IsFaultOf}
-use Rattle.xg_scale.proofs.FoundLemmas.{found_here, found_later, number_next}
+use Rattle.xg_scale.proofs.FoundLemmas.{found_here, found_later, found_none, number_next}
+use Rattle.xg_scale.proofs.GameLemmas.{in_chance_set, tree_rules}
 
 -- at a chance node a walk asks its set
 at_chance : (test : SetTest) (tables : Tables) (before : List Visit) (v : Visit)
@@ -144,6 +150,49 @@ module _ (test : SetTest) (tables : Tables) (tree : Forest) (game : IsGameTree t
             seen_is = h.seen_is ∙ sym (ap (set_count Chance) nodes_more ∙ set_count-push_other Chance before x other);
             sets = h.sets;
           }
+
+-- what is read of the next node
+node_read : (tree : Forest) (k : ℕ) → IsNext tree k (visit_after tree k)
+    → slice_get (prefix tree) (k + 1 - 1) ≡ Some (visit_after tree k).node
+node_read tree k next =
+    let index : k + 1 - 1 ≡ k = omega arith in
+    (λ i. slice_get (sym (map-visits_from (λ _. []) 1 tree) i) (index i))
+    ∙ slice_get-map (λ (w : Visit). w.node) (visits tree) k
+    ∙ ap (option_map (λ (w : Visit). w.node)) (slice_get-get_or (visits tree) k no_visit next.there)
+
+-- where all sets pass, nothing is found at any node
+module _ (test : SetTest) (game : GameFile) (whole : IsWholeGame game)
+    (sets : (set : ℕ) → 1 ≤ set → set ≤ length game.sets.chance
+    → set_fault test 0 (probabilities (tables_of game) set) ≡ None) where
+  nothing_at : (k : ℕ) → k < node_count game.tree
+      → node_test_of test (tables_of game) (take k (visits game.tree)) (visit_after game.tree k) ≡ None
+  nothing_at k there = by (is_same_kind Chance (visit_after game.tree k).node.kind) refl
+    where
+      v : Visit
+      v = visit_after game.tree k
+
+      before : List Visit
+      before = take k (visits game.tree)
+
+      by : (b : Bool) → is_same_kind Chance v.node.kind ≡ b → node_test_of test (tables_of game) before v ≡ None
+      by true chance =
+          let known = in_chance_set game whole k v.node (node_read game.tree k (next_visit game.tree k (tree_rules game whole) there))
+          (is_same_kind-true Chance v.node.kind chance) in
+          at_chance test (tables_of game) before v chance
+          ∙ none_at test 0 (number_after before) (probabilities (tables_of game) v.node.set) (sets v.node.set known.from_one known.there)
+      by false other = elsewhere test (tables_of game) before v other
+
+  nothing_after : (m k : ℕ) → k + m ≡ node_count game.tree
+      → found_by (node_test_of test (tables_of game)) (take k (visits game.tree)) (drop k (visits game.tree)) ≡ None
+  nothing_after zero k last = found_none game.tree (node_test_of test (tables_of game)) k (omega (arith, last))
+  nothing_after (suc m) k more =
+      let there : k < node_count game.tree = omega (arith, more) in
+      found_later game.tree (node_test_of test (tables_of game)) k (visit_after game.tree k)
+      (next_visit game.tree k (tree_rules game whole) there) (nothing_at k there)
+      ∙ nothing_after m (k + 1) (omega (arith, more))
+
+  pub sets_pass : found_by (node_test_of test (tables_of game)) [] (visits game.tree) ≡ None
+  sets_pass = nothing_after (node_count game.tree) 0 (omega arith)
 
 -- before the first node
 pub sets_first : (test : SetTest) (tables : Tables) (tree : Forest) → PassedSets test tables tree 0 0

@@ -16,17 +16,76 @@ pub(crate) struct StepOnPath {
     is_new: bool,
 }
 
-/// The nodes on the path that are around the innermost. Nodes in a row with the same numbers have them once, since most
-/// games pay at leaves alone and a path may be as long as its tree.
+/// The nodes on the path that are around the innermost.
 #[derive(Drop)]
 pub(crate) struct OuterPath {
+    // The one right around the innermost, until another comes below. Most nodes are leaves, which are left at once.
+    nearest: Option<NodeOnPath>,
+    others: FartherPath,
+}
+
+impl Model for OuterPath {
+    ghost use Rattle.std.specs.Prelude.{List};
+    ghost use Rattle.xg_scale.specs.declared.path.NodeOnPath.{NodeOnPath};
+    ghost use Rattle.xg_scale.specs.Outer.{from_nearest};
+
+    ghost Value = { List NodeOnPath };
+
+    ghost view = { λ p. from_nearest p.nearest p.others };
+}
+
+impl OuterPath {
+    /// No node.
+    pub(crate) fn new(alloc: Global) -> OuterPath
+        ensures { result ≡ [] }
+    {
+        OuterPath {
+            nearest: None,
+            others: FartherPath {
+                steps: Ancestors::new(alloc),
+                numbers: empty_path().numbers,
+                further: Ancestors::new(alloc),
+            },
+        }
+    }
+
+    /// Goes down to a child of a node.
+    #[inline(always)]
+    pub(crate) fn push(&mut self, node: NodeOnPath) -> Result<(), AllocError>
+        ensures { OnOk result (self.new ≡ node ∷ self.old) }
+    {
+        if let Some(nearest) = self.nearest {
+            self.others.push(nearest)?;
+        }
+        self.nearest = Some(node);
+        Ok(())
+    }
+
+    /// Goes up to the node around, and answers it.
+    #[inline(always)]
+    pub(crate) fn pop(&mut self) -> Option<NodeOnPath>
+        ensures some { IfSome result (λ around. self.old ≡ around ∷ self.new) }
+        ensures none { IsNone result → self.old ≡ [] }
+    {
+        if let Some(nearest) = self.nearest {
+            self.nearest = None;
+            return Some(nearest);
+        }
+        self.others.pop()
+    }
+}
+
+/// Nodes on the path. Those in a row with the same numbers have them once, since most games pay at leaves alone and a
+/// path may be as long as its tree.
+#[derive(Drop)]
+struct FartherPath {
     steps: Ancestors<StepOnPath>,
     // Those of the last node, and behind them each further ones that differ.
     numbers: PathNumbers,
     further: Ancestors<PathNumbers>,
 }
 
-impl Model for OuterPath {
+impl Model for FartherPath {
     ghost use Rattle.std.specs.Prelude.{List};
     ghost use Rattle.xg_scale.specs.declared.path.NodeOnPath.{NodeOnPath};
     ghost use Rattle.xg_scale.specs.Outer.{nodes_around};
@@ -36,21 +95,10 @@ impl Model for OuterPath {
     ghost view = { λ p. nodes_around p.steps p.numbers p.further };
 }
 
-impl OuterPath {
-    /// No node.
-    pub(crate) fn new(alloc: Global) -> OuterPath
-        ensures { result ≡ [] }
-    {
-        OuterPath {
-            steps: Ancestors::new(alloc),
-            numbers: empty_path().numbers,
-            further: Ancestors::new(alloc),
-        }
-    }
-
-    /// Goes down to a child of a node.
+impl FartherPath {
+    /// Puts a node before them.
     #[inline(always)]
-    pub(crate) fn push(&mut self, node: NodeOnPath) -> Result<(), AllocError>
+    fn push(&mut self, node: NodeOnPath) -> Result<(), AllocError>
         ensures { OnOk result (self.new ≡ node ∷ self.old) }
     {
         let is_new = !are_same(node.numbers, self.numbers);
@@ -65,9 +113,9 @@ impl OuterPath {
         })
     }
 
-    /// Goes up to the node around, and answers it.
+    /// Takes the first of them.
     #[inline(always)]
-    pub(crate) fn pop(&mut self) -> Option<NodeOnPath>
+    fn pop(&mut self) -> Option<NodeOnPath>
         ensures some { IfSome result (λ around. self.old ≡ around ∷ self.new) }
         ensures none { IsNone result → self.old ≡ [] }
     {
