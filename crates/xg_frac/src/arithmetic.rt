@@ -17,6 +17,7 @@ pub fn add(a: Frac, b: Frac) -> Result<Frac, OverLimit>
 }
 
 /// The exact product.
+#[inline(always)]
 pub fn mul(a: Frac, b: Frac) -> Result<Frac, OverLimit>
     ensures { OkIff result (IsTrue (fits (product_of a b))) (product_of a b) }
 {

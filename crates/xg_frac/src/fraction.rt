@@ -141,6 +141,7 @@ fn wide_common_divisor(a: u128, b: u128) -> u128
 }
 
 /// The fraction of a numerator and a denominator.
+#[inline(always)]
 pub(crate) fn in_lowest_terms(num: i128, den: i128) -> Result<Frac, OverLimit>
     requires { pos 1 ≤ℤ den }
     ensures { let exact = fraction_of num (unsigned_abs den) in
@@ -149,7 +150,9 @@ pub(crate) fn in_lowest_terms(num: i128, den: i128) -> Result<Frac, OverLimit>
     reduced(num < 0, num.unsigned_abs(), den.unsigned_abs()).ok_or(OverLimit)
 }
 
-/// The fraction of this sign and these sizes, unless a part of it in lowest terms is past the limit.
+/// The fraction of this sign and these sizes, unless a part of it in lowest terms is past the limit. Most are within it
+/// already.
+#[inline(always)]
 pub(crate) fn reduced(negative: bool, num: u128, den: u128) -> Option<Frac>
     requires { 1 ≤ den }
     ensures { let exact = fraction_of (signed negative num) den in
@@ -158,6 +161,15 @@ pub(crate) fn reduced(negative: bool, num: u128, den: u128) -> Option<Frac>
     if num <= MOST_PART && den <= MOST_PART {
         return Some(short_reduced(negative, num as u64, den as u64));
     }
+    long_reduced(negative, num, den)
+}
+
+/// The same in 128 bits.
+fn long_reduced(negative: bool, num: u128, den: u128) -> Option<Frac>
+    requires { 1 ≤ den }
+    ensures { let exact = fraction_of (signed negative num) den in
+        SomeIff result (IsTrue (fits exact)) exact }
+{
     let common = greatest_common_divisor(num, den);
     let num = quotient(num, common);
     let den = quotient(den, common);

@@ -3,7 +3,7 @@ use Rattle.std.specs.Int.{w64}
 use Rattle.std.proofs.lemmas.Int.{to_z_pos, to_z-of_z}
 use Rattle.def_fraction.specs.Fraction.{Fraction, fits, signed}
 use Rattle.xg_frac.proofs.PartLemmas.{AreParts-from_divisor, view-from_divisor, over_limit}
-use Rattle.xg_frac.proofs.fraction.reduced.Goals as goal
+use Rattle.xg_frac.proofs.fraction.long_reduced.Goals as goal
 
 kept_num : (c : goal.After-with_sign)
     → to_z w64 (of_z w64 c.with_sign.result)
