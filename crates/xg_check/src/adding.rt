@@ -163,6 +163,7 @@ pub(crate) fn add_leaves(
     ensures sums { (s : ℕ) → row rows.new s ≡ row rows.old s +ℤ leaf_sum player form.now.leaves against.now s }
     ensures same_length { length rows.new ≡ length rows.old }
     ensures small { AreAllWithin (2 ^ 119) rows.new }
+    ensures same_sum_count { length sums.new ≡ length sums.old }
 {
     form.facts();
     sum_threads(form, player, against, sums);

@@ -1,11 +1,13 @@
 //! The tests of a reply.
-ghost use Rattle.std.specs.Prelude.{◌≡◌, ◌*◌, ◌≤◌, ◌≤ℤ◌, IfOk, pos, unsigned_abs};
+ghost use Rattle.std.specs.Prelude.{◌≡◌, ◌*◌, ◌≤◌, ◌≤ℤ◌, length, pos, unsigned_abs};
 ghost use Rattle.def_fraction.specs.Fraction.{most_wide};
 ghost use Rattle.def_tree.specs.Opponent.{opponent};
+ghost use Rattle.def_plan.specs.Form.{player_sets, sequence_count};
 ghost use Rattle.def_cert_verdict.specs.Certificate.{last_line};
 ghost use Rattle.def_cert_verdict.specs.Verdict.{first_failing};
 ghost use Rattle.xg_cert.specs.Printed.{bounds_in, plan_in, reply_in};
 ghost use Rattle.xg_check.specs.Parts.{HasEachSequence, HasSetsOf, bound_in, tests_of_reply, total_in};
+ghost use Rattle.xg_check.specs.Views.{AreAllWithin};
 
 use crate::lines::last_line;
 use crate::parts::PrintedEnd;
@@ -13,7 +15,6 @@ use crate::replies::reply_fault;
 use def_cert_verdict::TestFault;
 use def_reply::TraceLine;
 use def_tree::Player;
-use std::alloc::{AllocError, Global};
 use xg_cert::{Cert, scale_of};
 use xg_frac::Ratio;
 use xg_numbers::Numbers;
@@ -66,28 +67,27 @@ fn end_of(numbers: &Numbers, player: Player, cert: &Cert) -> PrintedEnd
     }
 }
 
-/// The first test of a player's reply that fails.
+/// The first test of a player's reply that fails, where the rows are all 0, and there is room for a sum of each leaf.
 pub(crate) fn fault_of_reply(
-    alloc: Global,
     numbers: &Numbers,
     player: Player,
     cert: &Cert,
-) -> Result<Option<TestFault>, AllocError>
+    sums: &mut [i128],
+    rows: &mut [i128],
+) -> Option<TestFault>
     requires sets { HasSetsOf numbers.now cert.now.certificate }
     requires plan { HasEachSequence (opponent player) numbers.now (bounds_in cert.now.certificate) }
-    ensures { IfOk result (λ fault. fault
-        ≡ first_failing (tests_of_reply player numbers.now (bounds_in cert.now.certificate))) }
+    requires sums { length sums.old ≡ length numbers.now.form.leaves }
+    requires rows { length rows.old ≡ sequence_count (player_sets numbers.now.form player) }
+    requires none { AreAllWithin 0 rows.old }
+    ensures fault { result ≡ first_failing (tests_of_reply player numbers.now (bounds_in cert.now.certificate)) }
+    ensures same_length { length sums.new ≡ length sums.old }
 {
     cert.facts();
+    let form = numbers.form();
+    form.facts();
     let against = cert.numbers(opponent(player));
     let end = end_of(numbers, player, cert);
-    reply_fault(
-        alloc,
-        numbers.form(),
-        player,
-        against,
-        cert.values(player),
-        cert.choices(player),
-        end,
-    )
+    let (values, choices) = (cert.values(player), cert.choices(player));
+    reply_fault(form, player, against, values, choices, end, sums, rows)
 }

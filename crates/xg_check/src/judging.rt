@@ -103,11 +103,15 @@ fn fault_of_replies(
     ensures { IfOk result (λ fault. fault
         ≡ first_failing (tests_of_replies numbers.now (bounds_in cert.now.certificate))) }
 {
-    let fault = fault_of_reply(alloc, numbers, Player::Two, cert)?;
+    let form = numbers.form();
+    let mut sums = vec![in alloc; 0; form.leaf_count() as usize]?;
+    let mut rows = vec![in alloc; 0; form.sequence_count(Player::Two) as usize]?;
+    let fault = fault_of_reply(numbers, Player::Two, cert, &mut sums, &mut rows);
     if fault.is_some() {
         return Ok(fault);
     }
-    fault_of_reply(alloc, numbers, Player::One, cert)
+    let mut rows = vec![in alloc; 0; form.sequence_count(Player::One) as usize]?;
+    Ok(fault_of_reply(numbers, Player::One, cert, &mut sums, &mut rows))
 }
 
 /// The first test of the bounds that fails.

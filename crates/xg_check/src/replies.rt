@@ -1,5 +1,5 @@
 //! All tests of a reply.
-ghost use Rattle.std.specs.Prelude.{◌≡◌, ℕ, ◌≤◌, ◌≤ℤ◌, All, IfOk, length, pos, slice_index, unsigned_abs};
+ghost use Rattle.std.specs.Prelude.{◌≡◌, ℕ, ◌≤◌, ◌≤ℤ◌, All, length, pos, slice_index, unsigned_abs};
 ghost use Rattle.def_sums.specs.Limits.{most_root};
 ghost use Rattle.def_tree.specs.Opponent.{opponent};
 ghost use Rattle.def_plan.specs.Form.{AreInOrder, player_sets, sequence_count};
@@ -16,43 +16,13 @@ use crate::testing::first_set_fault;
 use crate::totals::total_fault;
 use def_cert_verdict::TestFault;
 use def_tree::Player;
-use std::alloc::{AllocError, Global};
 use xg_seq::SeqForm;
 
 /// The first failing test of a player's printed reply against the other player's printed numbers: of its sets in turn,
-/// and then of its total.
+/// and then of its total. The rows are all 0, and there is room for a sum of each leaf.
 ///
 /// All sums stay within 128 bits whatever is printed, and each leaf, each value and each action is visited once.
 pub fn reply_fault(
-    alloc: Global,
-    form: &SeqForm,
-    player: Player,
-    against: &[u64],
-    values: &[i128],
-    choices: &[u32],
-    end: PrintedEnd,
-) -> Result<Option<TestFault>, AllocError>
-    requires against { length against.now ≡ sequence_count (player_sets form.now (opponent player)) }
-    requires numbers { (s : ℕ) → slice_index against.now s ≤ most_root }
-    requires values { length values.now ≡ length (player_sets form.now player) }
-    requires choices { length choices.now ≡ length (player_sets form.now player) }
-    requires small { All (λ v. unsigned_abs v ≤ most_printed) values.now }
-    requires total { unsigned_abs end.total ≤ most_wide }
-    requires from_one { pos 1 ≤ℤ end.scale }
-    requires scale { unsigned_abs end.scale ≤ most_wide }
-    ensures { IfOk result (λ fault. fault ≡ first_failing
-        (whole_reply_tests player (leaf_sum player form.now.leaves against.now) (player_sets form.now player)
-        (printed_reply end.total values.now choices.now) end.traced end.bound (unsigned_abs end.scale))) }
-{
-    let mut rows = vec![in alloc; 0; form.sequence_count(player) as usize]?;
-    let mut sums = vec![in alloc; 0; form.leaf_count() as usize]?;
-    Ok(fault_by_rows(
-        form, player, against, values, choices, end, &mut sums, &mut rows,
-    ))
-}
-
-// The same, where the rows are all 0, and there is room for a sum of each leaf.
-fn fault_by_rows(
     form: &SeqForm,
     player: Player,
     against: &[u64],
@@ -75,9 +45,10 @@ fn fault_by_rows(
     requires none { AreAllWithin 0 rows.old }
     requires order { AreInOrder (player_sets form.now player) }
     requires limit { sequence_count (player_sets form.now player) ≤ most_sequences }
-    ensures { result ≡ first_failing
+    ensures fault { result ≡ first_failing
         (whole_reply_tests player (leaf_sum player form.now.leaves against.now) (player_sets form.now player)
         (printed_reply end.total values.now choices.now) end.traced end.bound (unsigned_abs end.scale)) }
+    ensures same_length { length sums.new ≡ length sums.old }
 {
     add_leaves(form, player, against, sums, rows);
     add_values(form, player, values, rows);

@@ -1,4 +1,4 @@
-use Rattle.std.proofs.Common.{◌≡◌, ◌-◌, unsigned_abs, length, FitsSigned, to_z, of_z, ap, arith, rules, subst, sym, ◌∙◌}
+use Rattle.std.proofs.Common.{◌≡◌, unsigned_abs, length, FitsSigned, to_z, of_z, ap, arith, rules, subst, sym, ◌∙◌}
 use mir.Syntax.{w128}
 use Rattle.std.proofs.lemmas.Int.{to_z-of_z}
 use Rattle.def_plan.specs.Payoff.{leaf_sum}

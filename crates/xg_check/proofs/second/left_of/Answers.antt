@@ -9,7 +9,6 @@ use Rattle.def_game_numbers.specs.WholeSums.{IsWholeIn}
 use Rattle.xg_cert.specs.Printed.{bounds_in, plan_in}
 use Rattle.xg_cert.specs.Writable.{IsWholeEnd}
 use Rattle.xg_cert.proofs.Seconds.{upgrade_leaves}
-use Rattle.xg_check.specs.Parts.{bound_in}
 use Rattle.xg_check.proofs.SecondTests.{whole_bound}
 use Rattle.xg_check.proofs.second.left_of.Goals as goal
 

@@ -4,10 +4,10 @@ use Rattle.def_plan.specs.Payoff.{leaf_sum, worth}
 use Rattle.xg_check.specs.Views.{row}
 use Rattle.xg_check.proofs.AddLemmas.{whole_worth}
 use Rattle.xg_check.proofs.TestLemmas.{by_rows, front_passes, front_stops, one_test, sets_part, total_part}
-use Rattle.xg_check.proofs.replies.fault_by_rows.Goals as goal
+use Rattle.xg_check.proofs.replies.reply_fault.Goals as goal
 
-pub returns-then-is_some : goal.returns-then-is_some
-returns-then-is_some c =
+pub returns-then-is_some-clause-fault : goal.returns-then-is_some-clause-fault
+returns-then-is_some-clause-fault c =
     let player = c.args.player in
     let sets : List InformationSet = player_sets c.args.form.now player in
     let sums : ℕ → ℤ = leaf_sum player c.args.form.now.leaves c.args.against.now in
@@ -23,8 +23,8 @@ returns-then-is_some c =
     (sym c.is_some.ensures ∙ c.if-is_some.true)
     ∙ sym (by_rows player sums sets vs cs e.total e.traced e.bound (unsigned_abs e.scale) rows equal whole)
 
-pub returns : goal.returns
-returns c =
+pub returns-clause-fault : goal.returns-clause-fault
+returns-clause-fault c =
     let player = c.args.player in
     let sets : List InformationSet = player_sets c.args.form.now player in
     let sums : ℕ → ℤ = leaf_sum player c.args.form.now.leaves c.args.against.now in
