@@ -12,30 +12,6 @@ use def_tree::Player;
 use xg_cert::Head;
 use xg_numbers::Numbers;
 
-fn has_nodes(numbers: &Numbers, head: &Head) -> bool
-    ensures { result ≡ (head.now.nodes == numbers.now.nodes && head.now.leaves == length numbers.now.form.leaves) }
-{
-    head.nodes == numbers.nodes() && head.leaves == numbers.form().leaf_count()
-}
-
-fn has_sets(numbers: &Numbers, head: &Head) -> bool
-    ensures { result
-        ≡ (head.now.sets.0 == length numbers.now.form.sets_one && head.now.sets.1 == length numbers.now.form.sets_two) }
-{
-    let form = numbers.form();
-    head.sets.0 == form.set_count(Player::One) && head.sets.1 == form.set_count(Player::Two)
-}
-
-fn has_sequences(numbers: &Numbers, head: &Head) -> bool
-    ensures { result
-        ≡ (head.now.sequences.0 == sequence_count numbers.now.form.sets_one
-        && head.now.sequences.1 == sequence_count numbers.now.form.sets_two) }
-{
-    let form = numbers.form();
-    head.sequences.0 == form.sequence_count(Player::One)
-        && head.sequences.1 == form.sequence_count(Player::Two)
-}
-
 fn has_sum(numbers: &Numbers, head: &Head) -> bool
     ensures { result ≡ is_same_fraction head.now.sum numbers.now.sum }
 {
@@ -56,13 +32,16 @@ fn has_unit(version: TextVersion, numbers: &Numbers, head: &Head) -> bool
 pub(crate) fn head_fault(version: TextVersion, numbers: &Numbers, head: &Head) -> Option<TestFault>
     ensures { result ≡ first_failing (head_tests_of version numbers.now (head_of head.now)) }
 {
-    if !has_nodes(numbers, head) {
+    let form = numbers.form();
+    if head.nodes != numbers.nodes() || head.leaves != form.leaf_count() {
         return Some(TestFault::HeadDiffers { line: 2 });
     }
-    if !has_sets(numbers, head) {
+    if head.sets.0 != form.set_count(Player::One) || head.sets.1 != form.set_count(Player::Two) {
         return Some(TestFault::HeadDiffers { line: 3 });
     }
-    if !has_sequences(numbers, head) {
+    if head.sequences.0 != form.sequence_count(Player::One)
+        || head.sequences.1 != form.sequence_count(Player::Two)
+    {
         return Some(TestFault::HeadDiffers { line: 4 });
     }
     if !has_unit(version, numbers, head) {

@@ -3,7 +3,7 @@ ghost use Rattle.std.specs.Prelude.{◌≡◌, ◌*◌, ◌≤◌, IfOk, None, O
 ghost use Rattle.def_tree.specs.declared.Player.TheVariants.{One, Two};
 ghost use Rattle.def_plan.specs.Form.{AreInOrder};
 ghost use Rattle.def_cert_verdict.specs.Certificate.{last_line};
-ghost use Rattle.def_cert_verdict.specs.Verdict.{bounds_tests, first_failing, shown_by, tests_below_head, trace_tests};
+ghost use Rattle.def_cert_verdict.specs.Verdict.{bounds_tests, first_failing, shown_by, tests_below_head};
 ghost use Rattle.def_cert_text.specs.Versions.{in_version_one};
 ghost use Rattle.def_cert_versions.specs.Upgrade.{IsUpgradable};
 ghost use Rattle.def_cert_versions.specs.Verdict.{first_trace_line_of, judged_with, tests_of, versioned_verdict};
@@ -67,15 +67,6 @@ fn first_trace_line(version: TextVersion) -> u32
     }
 }
 
-fn fault_of_trace(cert: &Cert) -> Option<TestFault>
-    requires { 1 ≤ cert.now.certificate.head.rounds }
-    ensures { result ≡ first_failing
-        (trace_tests (first_trace_line_of cert.now.version) (bounds_in cert.now.certificate).trace) }
-{
-    cert.facts();
-    trace_fault(first_trace_line(cert.text_version()), cert.trace())
-}
-
 /// The first test of both plans that fails, player one's first.
 fn fault_of_plans(numbers: &Numbers, cert: &Cert) -> Option<TestFault>
     requires { HasSetsOf numbers.now cert.now.certificate }
@@ -125,6 +116,7 @@ fn fault_of_bounds(
         ≡ first_failing (bounds_tests numbers.now (first_trace_line_of cert.now.version)
         cert.now.certificate.head.scale (bounds_in cert.now.certificate))) }
 {
+    cert.facts();
     let fault = fault_of_plans(numbers, cert);
     if fault.is_some() {
         return Ok(fault);
@@ -133,7 +125,7 @@ fn fault_of_bounds(
     if fault.is_some() {
         return Ok(fault);
     }
-    Ok(fault_of_trace(cert))
+    Ok(trace_fault(first_trace_line(cert.text_version()), cert.trace()))
 }
 
 /// The first test below the head that fails. There is none where no round was asked.

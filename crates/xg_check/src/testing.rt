@@ -22,13 +22,6 @@ fn is_better(player: Player, rows: &[i128], s: usize, reply: SetReply) -> bool
     }
 }
 
-fn is_value(rows: &[i128], s: usize, reply: SetReply) -> bool
-    requires { s < length rows.now }
-    ensures { result ≡ int_eq (row rows.now s) reply.value }
-{
-    rows[s] == reply.value
-}
-
 // Whether the choice is an action of the set that is worth the set's value.
 fn is_reached(rows: &[i128], h: SetPlace, reply: SetReply) -> bool
     requires { h.first + h.actions ≤ length rows.now }
@@ -37,7 +30,7 @@ fn is_reached(rows: &[i128], h: SetPlace, reply: SetReply) -> bool
 {
     1 <= reply.choice
         && reply.choice <= h.actions
-        && is_value(rows, h.first as usize + (reply.choice as usize - 1), reply)
+        && rows[h.first as usize + (reply.choice as usize - 1)] == reply.value
 }
 
 // The first test of a set that fails.

@@ -1,4 +1,7 @@
-use Rattle.std.proofs.Common.{◌++◌, ap, sym, ◌∙◌}
+use Rattle.std.proofs.Common.{◌++◌, ap, subst, sym, ◌∙◌}
+use Rattle.def_cert_verdict.specs.Ranges.{TraceFits}
+use Rattle.def_cert_verdict.proofs.Sizes.{trace_products}
+use Rattle.xg_check.proofs.ReplyTests.{bounds_fit}
 use Rattle.def_cert_verdict.specs.Verdict.{first_failing, trace_tests}
 use Rattle.def_cert_versions.specs.Verdict.{first_trace_line_of}
 use Rattle.xg_cert.specs.Printed.{bounds_in}
@@ -28,13 +31,21 @@ returns-then-is_some-2 c =
     c.fault_of_plans-fault.ensures.exact (sym c.is_some.ensures ∙ c.if-is_some.false)
     ∙ ap first_failing (bounds_parts game first scale b)
 
+pub trace_fault-requires-clause-products : goal.trace_fault-requires-clause-products
+trace_fault-requires-clause-products c = λ j k line low low'.
+    let lines = c.trace.result.now in
+    let cert = c.args.cert.now.certificate in
+    let fits = bounds_fit cert c.facts.ensures.within.certificate (c.facts.ensures.bounds c.requires.asked) in
+    trace_products cert.head lines j k line c.facts.ensures.within.certificate.head (subst (TraceFits cert.head) (sym c.trace.ensures) fits.trace) low low'
+
 pub returns : goal.returns
 returns c =
     let game = c.args.numbers.now in
     let scale = c.args.cert.now.certificate.head.scale in
     let b = bounds_in c.args.cert.now.certificate in
     let first = first_trace_line_of c.args.cert.now.version in
-    c.fault_of_trace.ensures
+    c.trace_fault.ensures
+    ∙ (λ i. first_failing (trace_tests ((c.first_trace_line.ensures ∙ ap first_trace_line_of c.text_version.ensures) i) (c.trace.ensures i)))
     ∙ rest_decides c.in_ok-fault.fault (tests_of_replies game b) (trace_tests first b.trace) c.in_ok-fault.ensures
     (sym c.is_some-2.ensures ∙ c.if-is_some-2.false)
     ∙ rest_decides c.fault_of_plans-fault.result (tests_of_plans game scale b) (tests_of_replies game b ++ trace_tests first b.trace)
