@@ -37,15 +37,7 @@ fn plan_round_in(player: Player, line: &TraceLine) -> u32
     }
 }
 
-/// The root that a player's plan must have: the round that it comes from, times the scale.
-fn wanted_root(player: Player, cert: &Cert) -> u64
-    ensures { result ≡ plan_round_in player (last_line (bounds_in cert.now.certificate).trace)
-        * cert.now.certificate.head.scale }
-{
-    let round = plan_round_in(player, &last_line(cert.trace()));
-    round as u64 * cert.head().scale as u64
-}
-
+/// The first test of a player's plan that fails. Its root is to be the round that it comes from, times the scale.
 fn fault_of_plan(numbers: &Numbers, player: Player, cert: &Cert) -> Option<TestFault>
     requires { HasSetsOf numbers.now cert.now.certificate }
     ensures exact { result
@@ -54,7 +46,9 @@ fn fault_of_plan(numbers: &Numbers, player: Player, cert: &Cert) -> Option<TestF
     ensures whole { result ≡ None → HasEachSequence player numbers.now (bounds_in cert.now.certificate) }
 {
     cert.facts();
-    plan_fault(numbers.form(), player, wanted_root(player, cert), cert)
+    let round = plan_round_in(player, &last_line(cert.trace()));
+    let wanted = round as u64 * cert.head().scale as u64;
+    plan_fault(numbers.form(), player, wanted, cert)
 }
 
 /// The number of the trace's first line in the text.

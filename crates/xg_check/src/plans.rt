@@ -1,5 +1,5 @@
 //! The tests of a plan.
-ghost use Rattle.std.specs.Prelude.{◌≡◌, ◌==◌, ◌≤◌, ◌&&◌, nat_le, length, None};
+ghost use Rattle.std.specs.Prelude.{◌≡◌, ◌≤◌, length, None};
 ghost use Rattle.def_plan.specs.Form.{player_sets, sequence_count};
 ghost use Rattle.def_cert_verdict.specs.Certificate.{printed_numbers};
 ghost use Rattle.def_cert_verdict.specs.Verdict.{first_failing, first_of_other_size, not_a_plan_at, plan_tests};
@@ -10,12 +10,6 @@ use def_cert_verdict::TestFault;
 use def_tree::Player;
 use xg_cert::Cert;
 use xg_seq::SeqForm;
-
-fn is_root(root: u64, wanted: u64) -> bool
-    ensures { result ≡ (nat_le 1 root && root == wanted) }
-{
-    1 <= root && root == wanted
-}
 
 fn not_a_plan_at(player: Player, set: Option<u32>) -> Option<TestFault>
     ensures { result ≡ not_a_plan_at player set }
@@ -63,7 +57,8 @@ pub(crate) fn plan_fault(
         → length (printed_numbers (plan_in player (bounds_in cert.now.certificate)))
         ≡ sequence_count (player_sets form.now player) }
 {
-    if !is_root(cert.root(player), wanted) {
+    let root = cert.root(player);
+    if root == 0 || root != wanted {
         return Some(TestFault::NotAPlan { player, set: 0 });
     }
     let other_size = first_of_other_size(form, player, cert);
