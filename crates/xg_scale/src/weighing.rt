@@ -49,6 +49,7 @@ pub fn weigh(alloc: Global, game: &Game) -> Result<Weights, Refused>
         AllZip (IsWeightOf (tables_of game.now) weights.unit) (leaf_visits game.now.tree) weights.leaves) }
     ensures count { IfOk result (λ weights. length weights.leaves ≡ leaf_count (prefix game.now.tree)) }
 {
+    game.numbers_are_in_lowest_terms();
     weigh_exactly(alloc, game)
 }
 
@@ -60,16 +61,16 @@ pub fn payoff_range(alloc: Global, game: &Game) -> Result<PayoffRange, Refused>
     ensures refused { IfErr result (RefusesBy (found_by (node_fault (tables_of game.now)) [] (visits game.now.tree))) }
     ensures faultless { HasNoNumberFault game.now → IfErr result (λ refused. refused ≡ Refused.NoMemory) }
 {
+    game.numbers_are_in_lowest_terms();
     range_exactly(alloc, game)
 }
 
 fn range_exactly(alloc: Global, game: &Game) -> Result<PayoffRange, Refused>
+    requires { AreFractions (tables_of game.now) }
     ensures range { IfOk result (λ range.
         IsPayoffRange (tables_of game.now) game.now.tree range.least range.greatest) }
     ensures refused { IfErr result (RefusesBy (found_by (node_fault (tables_of game.now)) [] (visits game.now.tree))) }
-    ensures lowest { AreFractions (tables_of game.now) }
 {
-    game.numbers_are_in_lowest_terms();
     let _tree = game.tree();
     let expected = expect(alloc, game)?;
     let range = expected.range;
@@ -81,10 +82,9 @@ fn range_exactly(alloc: Global, game: &Game) -> Result<PayoffRange, Refused>
 }
 
 fn weigh_exactly(alloc: Global, game: &Game) -> Result<Weights, Refused>
-    ensures exact { Answers result (weigh game.now) }
-    ensures lowest { AreFractions (tables_of game.now) }
+    requires { AreFractions (tables_of game.now) }
+    ensures { Answers result (weigh game.now) }
 {
-    game.numbers_are_in_lowest_terms();
     check_sets(game, SetTest::Signs)?;
     check_sets(game, SetTest::Sums)?;
     let expected = expect(alloc, game)?;
