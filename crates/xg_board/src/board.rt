@@ -15,6 +15,7 @@ ghost use Rattle.xg_board.specs.Visits.{steps_to};
 use crate::close::{take_passes, take_stripes};
 use crate::pass::Pass;
 use crate::purse::Purse;
+use std::marker::PhantomData;
 use std::mem;
 use std::sync::{Mutex, Wait};
 use std::thread::Threads;
@@ -46,7 +47,11 @@ impl<N: RowName> RowBoard<N> {
         ensures pass { result ≡ record { worker = worker; rights = []; tickets = 1; number = purse.old.number } }
         ensures purse { purse.new ≡ record { made = purse.old.made + 1; number = purse.old.number } }
     {
-        Pass::of(worker, purse.give(&self.table.shared))
+        Pass {
+            worker,
+            badge: purse.give(&self.table.shared).into_badge(),
+            name: PhantomData,
+        }
     }
 
     /// Draws a job that nobody has drawn, with the right to add it into each stripe. Where there is none, the pass is

@@ -36,24 +36,8 @@ pub(crate) fn take_passes<N: RowName>(
         ) }
 {
     for pass in passes {
-        take_pass(table, all, pass);
+        meet(table, all, pass.into_seat());
     }
-}
-
-// Takes in the seat of a pass.
-fn take_pass<N: RowName>(table: &SharedRights, all: &mut RightsSeat, pass: Pass<N>)
-    requires table { (table.now.table_id ≡ N.table) × (0 < N.table.words) }
-    requires seat { (all.old.table_id ≡ N.table) × (all.old.me.1 ≡ []) × (0 < all.old.me.0.parts) }
-    requires no_rights { pass.rights ≡ [] }
-    ensures table { all.new.table_id ≡ N.table }
-    ensures view { all.new.me
-        ≡ (
-          seen all.old.me.0.rights (all.old.me.0.tickets + pass.tickets) (all.old.me.0.parts + 1)
-              (number_met all.old.me),
-          [],
-        ) }
-{
-    meet(table, all, pass.into_seat());
 }
 
 // Takes in the seats of all stripes, with their totals.
@@ -80,36 +64,11 @@ pub(crate) fn take_stripes<N: RowName>(
     ensures one { length rows.new.one ≡ length rows.old.one }
 {
     for stripe in stripes {
-        take_stripe(table, all, rows, stripe.into_inner());
+        let (stripe, seat) = stripe.into_inner().into_parts();
+        stripe.history_is_legal();
+        meet(table, all, seat);
+        add_totals(rows, &stripe);
     }
-}
-
-// Takes in the seat of a stripe, with its totals.
-fn take_stripe<N: RowName>(
-    table: &SharedRights,
-    all: &mut RightsSeat,
-    rows: &mut Rows,
-    stripe: SeatedStripe<N>,
-)
-    requires table { (table.now.table_id ≡ N.table) × (0 < N.table.words) }
-    requires seat { (all.old.table_id ≡ N.table) × (all.old.me.1 ≡ []) × (0 < all.old.me.0.parts)
-        × (job_count_of (number_met all.old.me) ≡ N.jobs) }
-    requires gathered { (start : List Right)
-        × Gathered N.jobs N.rows (stripes_of (number_met all.old.me)) N.amount start all.old.me.0.rights
-        (all_rows rows.old) }
-    ensures table { all.new.table_id ≡ N.table }
-    ensures view { all.new.me
-        ≡ (seen all.new.me.0.rights all.old.me.0.tickets (all.old.me.0.parts + 1) (number_met all.old.me), []) }
-    ensures gathered { (start : List Right)
-        → Gathered N.jobs N.rows (stripes_of (number_met all.old.me)) N.amount start all.old.me.0.rights
-        (all_rows rows.old) → Gathered N.jobs N.rows (stripes_of (number_met all.old.me)) N.amount start
-        all.new.me.0.rights (all_rows rows.new) }
-    ensures one { length rows.new.one ≡ length rows.old.one }
-{
-    let (stripe, seat) = stripe.into_parts();
-    stripe.history_is_legal();
-    meet(table, all, seat);
-    add_totals(rows, &stripe);
 }
 
 // Adds a stripe's totals to its rows.
@@ -125,27 +84,8 @@ fn add_totals<N: RowName>(rows: &mut Rows, stripe: &Stripe<N>)
     let stripes = stripe.stripes();
     let places = place_count(row_count(rows), index, stripes);
     for place in 0..places {
-        add_total(rows, stripe, place);
+        add_at(rows, place * stripes + index, stripe.total(place));
     }
-}
-
-// Adds the total at a place of a stripe to its row.
-fn add_total<N: RowName>(rows: &mut Rows, stripe: &Stripe<N>, place: u32)
-    requires place { place < places_in stripe.now.stripes N.rows stripe.now.index }
-    requires count { length (all_rows rows.old) ≡ N.rows }
-    requires small { let row = place * stripe.now.stripes + stripe.now.index in
-        unsigned_abs (slice_index_or (all_rows rows.old) row (pos 0)) ≤ most_row }
-    ensures rows { all_rows rows.new ≡ slice_set (all_rows rows.old) (place * stripe.now.stripes + stripe.now.index)
-        (slice_index_or (all_rows rows.old) (place * stripe.now.stripes + stripe.now.index) (pos 0)
-        +ℤ replay N.amount stripe.now.order (place * stripe.now.stripes + stripe.now.index)) }
-    ensures one { length rows.new.one ≡ length rows.old.one }
-{
-    stripe.history_is_legal();
-    let index = stripe.index();
-    let stripes = stripe.stripes();
-    let row = place * stripes + index;
-    let total = stripe.total(place);
-    add_at(rows, row, total);
 }
 
 // How many rows there are.
@@ -173,19 +113,12 @@ fn add_at(rows: &mut Rows, row: u32, amount: i128)
         ≡ slice_set (all_rows rows.old) row (slice_index_or (all_rows rows.old) row (pos 0) +ℤ amount) }
     ensures one { length rows.new.one ≡ length rows.old.one }
 {
-    let before = amount_at(rows, row as usize);
-    rows.put(row, before + amount);
-}
-
-// The amount at a row.
-fn amount_at(rows: &Rows, row: usize) -> i128
-    requires { row < length (all_rows rows.now) }
-    ensures { result ≡ slice_index_or (all_rows rows.now) row (pos 0) }
-{
-    let one = rows.one();
-    if row < one.len() {
-        one[row]
+    let place = row as usize;
+    let count = rows.one().len();
+    let before = if place < count {
+        rows.one()[place]
     } else {
-        rows.two()[row - one.len()]
-    }
+        rows.two()[place - count]
+    };
+    rows.put(row, before + amount);
 }

@@ -12,7 +12,7 @@ use xg_rowcore::RowName;
 pub struct Pass<N: RowName> {
     pub(crate) worker: u32,
     pub(crate) badge: RightsBadge,
-    name: PhantomData<N>,
+    pub(crate) name: PhantomData<N>,
 }
 
 impl<N: RowName> Model for Pass<N> {
@@ -26,23 +26,6 @@ impl<N: RowName> Model for Pass<N> {
 }
 
 impl<N: RowName> Pass<N> {
-    pub(crate) fn of(worker: u32, seat: RightsSeat) -> Pass<N>
-        requires { (seat.table_id ≡ N.table)
-            × (seat.me ≡ (seen seat.me.0.rights seat.me.0.tickets 1 (number_met seat.me), [])) }
-        ensures { result ≡ record {
-          worker = worker;
-          rights = seat.me.0.rights;
-          tickets = seat.me.0.tickets;
-          number = number_met seat.me;
-        } }
-    {
-        Pass {
-            worker,
-            badge: seat.into_badge(),
-            name: PhantomData,
-        }
-    }
-
     /// The worker's number.
     pub fn worker(&self) -> u32
         ensures { result ≡ self.now.worker }

@@ -5,7 +5,7 @@ ghost use Rattle.xg_locked.specs.Rights.{seen};
 ghost use Rattle.xg_locked.specs.Locked.{number_met};
 
 use std::marker::{Brand, Model, PhantomData};
-use xg_locked::{Cut, RightsSeat, SharedRights, View, cut};
+use xg_locked::{RightsSeat, SharedRights, View, cut};
 use xg_rowcore::RowName;
 
 /// What the caller of a board's opening holds: the tickets and the parts for at most 64 passes.
@@ -47,7 +47,7 @@ impl<N: RowName> Purse<N> {
         ensures seat { result.me ≡ (seen [] 1 1 self.old.number, []) }
         ensures purse { self.new ≡ record { made = self.old.made + 1; number = self.old.number } }
     {
-        let seat = give_pass::<Brand>(table, &mut self.seat);
+        let seat = cut::<Brand>(table, &mut self.seat);
         self.made += 1;
         seat
     }
@@ -64,16 +64,4 @@ impl<N: RowName> Purse<N> {
         } = self;
         seat
     }
-}
-
-// Cuts off a ticket and a part.
-fn give_pass<C: Cut>(table: &SharedRights, seat: &mut RightsSeat) -> RightsSeat
-    requires table { (seat.old.table_id ≡ table.now.table_id) × (0 < table.now.table_id.words) }
-    requires rich { (1 ≤ seat.old.me.0.tickets) × (2 ≤ seat.old.me.0.parts) × (seat.old.me.0.rights ≡ []) }
-    requires kept { C.kept ≡ seen [] (seat.old.me.0.tickets - 1) (seat.old.me.0.parts - 1) (number_met seat.old.me) }
-    requires given { C.given ≡ seen [] 1 1 (number_met seat.old.me) }
-    ensures kept { (seat.new.table_id ≡ seat.old.table_id) × (seat.new.me ≡ (C.kept, seat.old.me.1)) }
-    ensures given { (result.table_id ≡ seat.old.table_id) × (result.me ≡ (C.given, [])) }
-{
-    cut::<C>(table, seat)
 }

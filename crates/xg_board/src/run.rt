@@ -1,5 +1,5 @@
 //! The run of all workers over the jobs of a round.
-ghost use Rattle.std.specs.Prelude.{◌≡◌, ◌<◌, ◌≤◌, ◌+◌, ◌^◌, [], IfOk, IsTrue, All, false, length};
+ghost use Rattle.std.specs.Prelude.{◌≡◌, ◌<◌, ◌≤◌, ◌+◌, ◌^◌, ◌⊎◌, [], IfOk, All, length};
 ghost use Rattle.std.specs.Prelude.{vec_capacity, vec_len};
 ghost use Rattle.def_sums.specs.Limits.{most_workers, most_stripes};
 ghost use Rattle.xg_jobs.specs.JobAmounts.{IsRoundOf};
@@ -29,36 +29,7 @@ struct Worker<N: RowName> {
     packet: Packet,
 }
 
-// Draws a job and adds it. Answers whether there was one.
-fn add_next<Rt: Threads + Wait + Sync, N: RowName, G: Gate>(
-    rt: &Rt,
-    board: &RowBoard<N>,
-    input: &RowInput<'_>,
-    jobs: &JobTable,
-    worker: &mut Worker<N>,
-    gate: &G,
-) -> bool
-    requires round { IsRoundOf N.jobs N.rows N.amount input.now jobs.now }
-    requires ready { IsReady (number_from board.now.jobs board.now.stripes) (most_touched jobs.now.touched)
-        worker.old.pass worker.old.packet.entries }
-    ensures more { IsTrue result
-        → IsReady (number_from board.now.jobs board.now.stripes) (most_touched jobs.now.touched) worker.new.pass
-        worker.new.packet.entries }
-    ensures grouped { IsTrue result → length worker.new.packet.entries.list < 2 ^ 32
-        → worker.new.packet.entries.chained ≡ board.now.stripes }
-    ensures done { result ≡ false → IsSpent worker.new.pass }
-{
-    let Some(job) = board.draw(rt, &mut worker.pass) else {
-        return false;
-    };
-    gate.pass(rt, worker.pass.worker(), job);
-    jobs.packet_into(job, input, &mut worker.packet);
-    worker.packet.group(board.stripes);
-    board.add(rt, &mut worker.pass, &worker.packet, gate);
-    true
-}
-
-// Draws and adds until the bag is empty.
+// Draws jobs and adds them until the bag is empty.
 fn work<Rt: Threads + Wait + Sync, N: RowName, G: Gate>(
     rt: &Rt,
     board: &RowBoard<N>,
@@ -70,12 +41,19 @@ fn work<Rt: Threads + Wait + Sync, N: RowName, G: Gate>(
     requires round { IsRoundOf N.jobs N.rows N.amount input.now jobs.now }
     requires ready { IsReady (number_from board.now.jobs board.now.stripes) (most_touched jobs.now.touched)
         worker.old.pass worker.old.packet.entries }
-    ensures { IsSpent worker.new.pass }
+    ensures spent { IsSpent worker.new.pass }
+    ensures grouped { (worker.new.packet ≡ worker.old.packet)
+        ⊎ (length worker.new.packet.entries.list < 2 ^ 32
+        → worker.new.packet.entries.chained ≡ board.now.stripes) }
 {
     for _ in rt.forever() {
-        if !add_next(rt, board, input, jobs, worker, gate) {
+        let Some(job) = board.draw(rt, &mut worker.pass) else {
             return;
-        }
+        };
+        gate.pass(rt, worker.pass.worker(), job);
+        jobs.packet_into(job, input, &mut worker.packet);
+        worker.packet.group(board.stripes);
+        board.add(rt, &mut worker.pass, &worker.packet, gate);
     }
     unreachable!()
 }
@@ -127,10 +105,9 @@ fn make_crew<N: RowName>(
     ensures purse { IfOk result
         (λ crew. purse.new ≡ record { made = count; number = number_from board.now.jobs board.now.stripes }) }
 {
-    let mut crew = Vec::new(alloc);
+    let mut crew = Vec::with_capacity(alloc, count as usize)?;
     for number in 0..count {
         let packet = Packet::new(alloc, room)?;
-        crew.reserve(1)?;
         let pass = board.pass(purse, number);
         crew.push_reserved(Worker { pass, packet });
     }
@@ -146,50 +123,10 @@ fn passes_of<N: RowName>(mut passes: Vec<Pass<N>>, crew: Vec<Worker<N>>) -> Vec<
     ensures spent { tickets_of result.items ≡ 0 }
 {
     for worker in crew {
-        keep_pass(&mut passes, worker);
+        let Worker { pass, packet: _ } = worker;
+        passes.push_reserved(pass);
     }
     passes
-}
-
-// Keeps the pass of a worker that is done.
-fn keep_pass<N: RowName>(passes: &mut Vec<Pass<N>>, worker: Worker<N>)
-    requires room { length passes.old.items < vec_capacity passes.old }
-    requires done { IsSpent worker.pass }
-    ensures count { (length passes.new.items ≡ length passes.old.items + 1)
-        × (vec_capacity passes.new ≡ vec_capacity passes.old) }
-    ensures no_rights { All (λ (p : Holding). p.rights ≡ []) passes.old.items
-        → All (λ (p : Holding). p.rights ≡ []) passes.new.items }
-    ensures spent { tickets_of passes.new.items ≡ tickets_of passes.old.items }
-{
-    let Worker { pass, packet: _ } = worker;
-    passes.push_reserved(pass);
-}
-
-// Runs the workers of an open board until they are done, and answers their passes.
-fn run_crew<Rt: Threads + Wait + Sync, N: RowName + Send + Sync, G: Gate>(
-    rt: &Rt,
-    alloc: Global,
-    board: &RowBoard<N>,
-    purse: &mut Purse<N>,
-    input: &RowInput<'_>,
-    jobs: &JobTable,
-    workers: u32,
-    gate: &G,
-) -> Result<Vec<Pass<N>>, AllocError>
-    requires round { IsRoundOf N.jobs N.rows N.amount input.now jobs.now }
-    requires purse { purse.old ≡ record { made = 0; number = number_from board.now.jobs board.now.stripes } }
-    requires workers { (1 ≤ workers) × (workers ≤ most_workers) }
-    ensures number { IfOk result (λ passes. purse.new.number ≡ number_from board.now.jobs board.now.stripes) }
-    ensures all { IfOk result (λ passes. length passes.items ≡ purse.new.made) }
-    ensures no_rights { IfOk result (λ passes. All (λ (p : Holding). p.rights ≡ []) passes.items) }
-    ensures one_spent { IfOk result (λ passes. tickets_of passes.items < purse.new.made) }
-{
-    // one pass at least has to find the bag empty, even if there were no job
-    let count = workers.min(jobs.count().max(1));
-    let passes = Vec::with_capacity(alloc, count as usize)?;
-    let mut crew = make_crew(alloc, board, purse, jobs.room(), count)?;
-    work_all(rt, board, input, jobs, &mut crew, gate);
-    Ok(passes_of(passes, crew))
 }
 
 // Runs the workers of a named board.
@@ -208,14 +145,12 @@ fn run_named<Rt: Threads + Wait + Sync, N: RowName + Send + Sync, G: Gate>(
     ensures { IfOk result (λ rows. ArePlainSums input.now.form.now input.now.one.now input.now.two.now rows) }
 {
     let (board, mut purse) = RowBoard::<N>::open(alloc, base, input.form, jobs)?;
-    match run_crew(rt, alloc, &board, &mut purse, input, jobs, workers, gate) {
-        Ok(passes) => Ok(board.close(rt, purse, passes)),
-        Err(error) => {
-            drop(board);
-            drop(purse);
-            Err(error)
-        }
-    }
+    // one pass at least has to find the bag empty, even if there were no job
+    let count = workers.min(jobs.count().max(1));
+    let mut crew = make_crew(alloc, &board, &mut purse, jobs.room(), count)?;
+    let passes = Vec::with_capacity(alloc, count as usize)?;
+    work_all(rt, &board, input, jobs, &mut crew, gate);
+    Ok(board.close(rt, purse, passes_of(passes, crew)))
 }
 
 /// The plain sums over all leaves at each row, by at most so many workers in threads and by as many stripes.

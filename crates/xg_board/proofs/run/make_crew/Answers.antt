@@ -1,4 +1,4 @@
-use Rattle.std.proofs.Common.{◌+◌, [], ◌∷◌, length, length-append, ap, ◌∙◌, arith}
+use Rattle.std.proofs.Common.{◌+◌, [], ◌∷◌, length, length-append, ap, ◌∙◌, arith, rules}
 use Rattle.std.proofs.lemmas.List.Elements.{All-push}
 use Rattle.xg_locked.specs.Rights.{number_from}
 use Rattle.xg_board.specs.Holdings.{Holding}
@@ -9,7 +9,7 @@ pub loop-number-preserved : goal.loop-number-preserved
 loop-number-preserved g c =
     let number = number_from c.args.board.now.jobs c.args.board.now.stripes in
     let crew = c.loop-number.crew.items in
-    let items = rw c.in_ok-reserve.ensures.items at c.push_reserved.ensures.items in
+    let items = c.push_reserved.ensures.items in
     let pass = c.pass-pass.ensures.pass in
     let purse = c.loop-number.invariant.purse_is in
     let ready : IsReady number c.args.room c.pass-pass.result c.in_ok-packet.packet.entries = record {
@@ -19,6 +19,7 @@ loop-number-preserved g c =
       has_room = omega (arith, c.in_ok-packet.ensures.room);
     } in
     record {
+      room = search rules;
       len =
           let count = length-append crew (record { pass = c.pass-pass.result; packet = c.in_ok-packet.packet } ∷ []) in
           omega (arith, ap length items, count, c.loop-number.invariant.len);
