@@ -1,5 +1,5 @@
 //! The workers of a round in their threads.
-ghost use Rattle.std.specs.Prelude.{◌≡◌, ◌<◌, ◌≤◌, ◌+◌, ◌-◌, ℕ, [], IfOk, IsTrue, All, Contains, false, length};
+ghost use Rattle.std.specs.Prelude.{◌≡◌, ◌<◌, ◌≤◌, ◌+◌, ◌-◌, ℕ, [], IfOk, All, Contains, length};
 ghost use Rattle.std.specs.Prelude.{vec_len};
 ghost use Rattle.def_sums.specs.Limits.{most_workers};
 ghost use Rattle.xg_jobs.specs.JobAmounts.{IsRoundOf};
@@ -25,35 +25,7 @@ pub(crate) struct Member<N: RowName> {
     packet: Packet,
 }
 
-// Claims a job and adds it. Answers whether there was one.
-fn add_next<Rt: Threads + Wait + Sync, N: RowName, G: Gate>(
-    rt: &Rt,
-    board: &WordBoard<N>,
-    input: &RowInput<'_>,
-    jobs: &JobTable,
-    member: &mut Member<N>,
-    gate: &G,
-) -> bool
-    requires round { IsRoundOf N.jobs N.rows N.amount input.now jobs.now }
-    requires ready { let table = board.now.table.shared.table_id in
-        IsReadyToClaim table N.jobs N.rows N.amount (most_touched jobs.now.touched) member.old.worker
-        member.old.packet.entries }
-    ensures more { IsTrue result
-        → IsReadyToClaim board.now.table.shared.table_id N.jobs N.rows N.amount (most_touched jobs.now.touched)
-        member.new.worker member.new.packet.entries }
-    ensures done { result ≡ false
-        → IsDoneClaiming board.now.table.shared.table_id N.jobs N.rows N.amount member.new.worker }
-{
-    let Some(job) = board.claim(&mut member.worker) else {
-        return false;
-    };
-    gate.pass(rt, member.number, job);
-    jobs.packet_into(job, input, &mut member.packet);
-    board.add(&mut member.worker, &member.packet);
-    true
-}
-
-// Claims and adds until no job is left.
+// Claims jobs and adds them until no job is left.
 fn work<Rt: Threads + Wait + Sync, N: RowName, G: Gate>(
     rt: &Rt,
     board: &WordBoard<N>,
@@ -69,9 +41,12 @@ fn work<Rt: Threads + Wait + Sync, N: RowName, G: Gate>(
     ensures { IsDoneClaiming board.now.table.shared.table_id N.jobs N.rows N.amount member.new.worker }
 {
     for _ in rt.forever() {
-        if !add_next(rt, board, input, jobs, member, gate) {
+        let Some(job) = board.claim(&mut member.worker) else {
             return;
-        }
+        };
+        gate.pass(rt, member.number, job);
+        jobs.packet_into(job, input, &mut member.packet);
+        board.add(&mut member.worker, &member.packet);
     }
     unreachable!()
 }
@@ -125,10 +100,9 @@ pub(crate) fn make_crew<N: RowName>(
     ensures owner { let table = board.now.table.shared.table_id in
         IfOk result (λ crew. owner.new ≡ record { table = table; numbers = []; made = count; unjoined = count }) }
 {
-    let mut crew = Vec::new(alloc);
+    let mut crew = Vec::with_capacity(alloc, count as usize)?;
     for number in 0..count {
         let packet = Packet::new(alloc, room)?;
-        crew.reserve(1)?;
         let worker = board.worker(owner);
         crew.push_reserved(Member {
             number,
@@ -151,22 +125,11 @@ pub(crate) fn join_all<N: RowName>(board: &WordBoard<N>, owner: &mut Owner<N>, c
     ensures past { (n : ℕ) × Contains owner.new.numbers n × (N.jobs ≤ n) }
 {
     for member in crew {
-        join_one(board, owner, member);
+        let Member {
+            number: _,
+            worker,
+            packet: _,
+        } = member;
+        board.join(owner, worker);
     }
-}
-
-// Joins one worker.
-fn join_one<N: RowName>(board: &WordBoard<N>, owner: &mut Owner<N>, member: Member<N>)
-    requires owner { owner.old.table ≡ board.now.table.shared.table_id }
-    requires done { IsDoneClaiming board.now.table.shared.table_id N.jobs N.rows N.amount member.worker }
-    ensures table { owner.new.table ≡ owner.old.table }
-    ensures unjoined { owner.new.unjoined ≡ owner.old.unjoined - 1 }
-    ensures past { (n : ℕ) × Contains owner.new.numbers n × (N.jobs ≤ n) }
-{
-    let Member {
-        number: _,
-        worker,
-        packet: _,
-    } = member;
-    board.join(owner, worker);
 }
