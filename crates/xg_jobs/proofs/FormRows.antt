@@ -4,7 +4,7 @@ use Rattle.std.proofs.Common.{sym, ap, subst, ◌∙◌, arith}
 use Rattle.std.proofs.lemmas.List.{ext_get_or, length-map}
 use Rattle.std.proofs.lemmas.List.FromFn.{get_or-map-range_with_len, length-map-range_with_len}
 use Rattle.std.proofs.Math.Nat.{mul-le-mul, mul-le-mul_right}
-use Rattle.def_sums.specs.Limits.{most_root, past_number}
+use Rattle.def_sums.specs.Limits.{most_mass, most_root, past_number}
 use Rattle.def_sums.proofs.RingLaws.{zero-+ℤ}
 use Rattle.def_sums.proofs.SumLaws.{sum_over-map}
 use Rattle.def_tree.specs.declared.Player.TheVariants.{One, Two}
@@ -18,7 +18,7 @@ use Rattle.xg_jobs.specs.Grouping.{GroupedWeights, entries_with, entry_of, leave
 use Rattle.xg_jobs.specs.Writing.{CanWrite}
 use Rattle.xg_jobs.proofs.Building.{entries_within}
 use Rattle.xg_jobs.proofs.Columns.{parts_are_leaf_sum}
-use Rattle.xg_jobs.proofs.Greatest.{at_most_greatest, both_within, greatest_within}
+use Rattle.xg_jobs.proofs.Greatest.{at_most_greatest, greatest_within}
 use Rattle.xg_jobs.proofs.PairWeights.{same_sum, weights_count}
 
 -- as many groups as player one has sequences
@@ -46,7 +46,7 @@ pub can_write : {bound : ℕ} {starts there : List ℕ} {entries leaves : List G
     {others mass : ℕ} {told : GroupedWeights} → KeepsGroups starts entries others mass
     → record { weights = weights_in starts entries others; mass = mass } ≡ told → told.weights ≡ pair_weights form One
     → All (HasSequences form) form.leaves → there ≡ starts → leaves ≡ entries
-    → mass * max (greatest_of x) (greatest_of y) < bound
+    → (told.mass ≤ most_mass → told.mass * max (greatest_of x) (greatest_of y) < bound)
     → CanWrite bound there leaves form x y
 can_write {bound} {starts} {there} {entries} {leaves} {form} {x} {y} {others} {mass} {told} kept view told_is known starts_are entries_are room =
     subst (λ a. CanWrite bound a leaves form x y) (sym starts_are) (
@@ -60,18 +60,25 @@ can_write {bound} {starts} {there} {entries} {leaves} {form} {x} {y} {others} {m
       kept = subst (λ n. KeepsGroups starts entries n mass) others_is kept;
       weights = subst (λ n. weights_in starts entries n ≡ pair_weights form One) others_is is;
       known = known;
-      room = room;
+      room = subst (λ (g : GroupedWeights). (g.mass ≤ most_mass → g.mass * max (greatest_of x) (greatest_of y) < bound)) (sym view) room kept.light;
     }
     ))
 
+-- and so by one player's numbers alone
+pub can_write_alone : {bound : ℕ} {starts there : List ℕ} {entries leaves : List GroupLeaf} {form : SequenceForm} {x : List ℕ}
+    {others mass : ℕ} {told : GroupedWeights} → KeepsGroups starts entries others mass
+    → record { weights = weights_in starts entries others; mass = mass } ≡ told → told.weights ≡ pair_weights form One
+    → All (HasSequences form) form.leaves → there ≡ starts → leaves ≡ entries
+    → (told.mass ≤ most_mass → told.mass * greatest_of x < bound)
+    → CanWrite bound there leaves form x x
+can_write_alone {x} {told} kept view told_is known starts_are entries_are room =
+    let same : max (greatest_of x) (greatest_of x) ≡ greatest_of x = grind arith in
+    can_write kept view told_is known starts_are entries_are (λ light. omega (arith, ap (λ k. told.mass * k) same, room light))
+
 -- there always is in 128 bits
-pub wide_room : {starts : List ℕ} {entries : List GroupLeaf} {others mass : ℕ} (x y : List ℕ)
-    → KeepsGroups starts entries others mass → All (λ n. n ≤ most_root) x → All (λ n. n ≤ most_root) y
-    → mass * max (greatest_of x) (greatest_of y) < 2 ^ 127
-wide_room x y kept small_one small_two =
-    let most : ℕ = max (greatest_of x) (greatest_of y) in
-    let low : most ≤ most_root = both_within x y most_root small_one small_two in
-    let both = mul-le-mul kept.light low in
+pub wide_room : (mass most : ℕ) → most ≤ most_root → mass ≤ most_mass → mass * most < 2 ^ 127
+wide_room mass most low light =
+    let both = mul-le-mul light low in
     omega (arith, both)
 
 module _ (bound : ℕ) (starts : List ℕ) (entries : List GroupLeaf) (form : SequenceForm) (x y : List ℕ)

@@ -5,45 +5,31 @@ ghost use Rattle.xg_jobs.specs.Adding.{AddsGroups, CanAddGroups};
 
 use crate::both::both_rows;
 use crate::entry::GroupEntry;
+use crate::input::Groups;
 use crate::row::{Row, add_row, put};
 
-/// As `both_rows`.
+/// As `both_rows`, into rows of player two that begin with 0, whatever they were.
 pub(crate) fn add_groups<E: GroupEntry, R: Row>(
-    starts: &[u32],
-    entries: &[E],
-    one: &[u64],
-    two: &[u64],
+    groups: &Groups<'_, E>,
     own: &mut [R],
     other: &mut [R],
 )
-    requires { CanAddGroups R.limit starts.now (map E.leaf entries.now) one.now two.now (length own.old)
-        (map R.amount other.old) }
-    ensures { AddsGroups starts.now (map E.leaf entries.now) one.now two.now
-        (map R.amount own.new) (map R.amount other.old) (map R.amount other.new) }
+    requires { CanAddGroups R.limit groups.now.starts.now (map E.leaf groups.now.entries.now) groups.now.one.now
+        groups.now.two.now (length own.old) (replicate (length other.old) (pos 0)) }
+    ensures { AddsGroups groups.now.starts.now (map E.leaf groups.now.entries.now) groups.now.one.now groups.now.two.now
+        (map R.amount own.new) (replicate (length other.old) (pos 0)) (map R.amount other.new) }
 {
+    let Groups {
+        starts,
+        entries,
+        one,
+        two,
+    } = *groups;
+    clear(other);
     both_rows(starts, entries, one, two, own, other);
 }
 
-/// The same into rows of player two that begin with 0, whatever they were.
-pub(crate) fn add_groups_afresh<E: GroupEntry, R: Row>(
-    starts: &[u32],
-    entries: &[E],
-    one: &[u64],
-    two: &[u64],
-    own: &mut [R],
-    fresh: &mut [R],
-)
-    requires { CanAddGroups R.limit starts.now (map E.leaf entries.now) one.now two.now (length own.old)
-        (replicate (length fresh.old) (pos 0)) }
-    ensures { AddsGroups starts.now (map E.leaf entries.now) one.now two.now
-        (map R.amount own.new) (replicate (length fresh.old) (pos 0)) (map R.amount fresh.new) }
-{
-    clear(fresh);
-    add_groups(starts, entries, one, two, own, fresh);
-}
-
-/// Puts the amount 0 at each row.
-pub(crate) fn clear<R: Row>(rows: &mut [R])
+fn clear<R: Row>(rows: &mut [R])
     ensures { map R.amount rows.new ≡ replicate (length rows.old) (pos 0) }
 {
     for b in 0..rows.len() {

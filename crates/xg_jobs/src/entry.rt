@@ -1,5 +1,5 @@
 //! A leaf in a group, in 4, 8 or more bytes.
-ghost use Rattle.std.specs.Prelude.{◌≡◌};
+ghost use Rattle.std.specs.Prelude.{◌≡◌, ◌↔◌, IsTrue};
 ghost use Rattle.xg_jobs.specs.Groups.{GroupLeaf};
 
 /// A leaf in the group of its sequence of one player, with the sequence of the other one.
@@ -8,6 +8,9 @@ pub(crate) trait GroupEntry: Copy {
     ghost leaf: { Self → GroupLeaf };
 
     ghost has_room: { GroupLeaf → Type 0 };
+
+    fn fits(other: u32, weight: i64) -> bool
+        ensures { IsTrue result ↔ has_room (record { other = other; weight = weight }) };
 
     fn new(other: u32, weight: i64) -> Self
         requires { has_room (record { other = other; weight = weight }) }
@@ -42,6 +45,10 @@ impl GroupEntry for TinyEntry {
 
     ghost has_room = { λ leaf. IsTiny leaf };
 
+    fn fits(other: u32, weight: i64) -> bool {
+        other < 1 << 16 && i16::try_from(weight).is_ok()
+    }
+
     fn new(other: u32, weight: i64) -> TinyEntry {
         TinyEntry {
             other: other as u16,
@@ -72,6 +79,10 @@ impl GroupEntry for SmallEntry {
 
     ghost has_room = { λ leaf. IsSmall leaf };
 
+    fn fits(_other: u32, weight: i64) -> bool {
+        i32::try_from(weight).is_ok()
+    }
+
     fn new(other: u32, weight: i64) -> SmallEntry {
         SmallEntry {
             other,
@@ -99,6 +110,10 @@ impl GroupEntry for WideEntry {
     ghost leaf = { λ e. record { other = e.other; weight = e.weight } };
 
     ghost has_room = { λ _. Unit {0} };
+
+    fn fits(_other: u32, _weight: i64) -> bool {
+        true
+    }
 
     fn new(other: u32, weight: i64) -> WideEntry {
         WideEntry { other, weight }

@@ -1,11 +1,11 @@
 //! The groups of player one's sequences, with the smallest entries that have room.
-ghost use Rattle.std.specs.Prelude.{◌≡◌, ◌↔◌, ◌*◌, ◌^◌, ◌<◌, ◌≤◌, max, All, IfOk, IsTrue, length, map};
+ghost use Rattle.std.specs.Prelude.{◌≡◌, ◌↔◌, ℕ, ◌*◌, ◌^◌, ◌<◌, ◌≤◌, max, All, IfOk, IsTrue, length, map, pos};
 ghost use Rattle.std.specs.Thread.{IsSync};
-ghost use Rattle.def_sums.specs.Limits.{most_root};
-ghost use Rattle.def_tree.specs.declared.Player.TheVariants.{One};
+ghost use Rattle.def_sums.specs.Limits.{most_mass, most_root};
+ghost use Rattle.def_tree.specs.declared.Player.TheVariants.{One, Two};
 ghost use Rattle.def_tree.specs.Opponent.{opponent};
 ghost use Rattle.def_plan.specs.Form.{player_sets, sequence_count};
-ghost use Rattle.def_plan.specs.FormRows.{player_rows};
+ghost use Rattle.def_plan.specs.FormRows.{amount_of, player_rows};
 ghost use Rattle.def_plan.specs.Payoff.{mass_of};
 ghost use Rattle.xg_jobs.specs.Entries.{AreGroupsOf};
 ghost use Rattle.xg_jobs.specs.Grouping.{pair_weights};
@@ -18,15 +18,15 @@ use crate::grouping::{entries_of, starts_of};
 use crate::input::{PlayerInput, RowInput};
 use crate::merging::{Grouped, merged};
 use crate::packing::MergedEntry;
+use crate::row::Row;
 use crate::rows::{Rows, SmallRows};
-use crate::sharing::write_small_rows_by_threads;
 use crate::sizes::{greatest_number, total_mass};
-use crate::spare::SpareRows;
-use crate::writing::{write_alone, write_rows, write_small_rows};
+use crate::spare::{PAYING_ENTRIES, SpareRows};
+use crate::writing::{write_alone, write_rows};
 use def_sums::MOST_ROOT;
 use def_tree::Player;
 use std::alloc::{AllocError, Global};
-use std::marker::{Model, Sync};
+use std::marker::{Model, Send, Sync};
 use std::thread::Threads;
 use xg_seq::SeqForm;
 
@@ -101,54 +101,31 @@ impl LeafGroups {
 
     /// Writes for each sequence of each player the sum over its leaves against the other player's numbers. Takes no
     /// memory.
-    pub(crate) fn write_to(&self, input: &RowInput<'_>, rows: &mut Rows)
+    pub(crate) fn write_to<Rt: Threads + Sync>(
+        &self,
+        rt: &Rt,
+        input: &RowInput<'_>,
+        rows: &mut Rows,
+    )
+        requires sync { IsSync Rt.row }
         requires groups { self.now.weights ≡ pair_weights input.now.form.now One }
         requires numbers { AreNumbersOf input.now.form.now input.now.one.now input.now.two.now }
         requires rows_one { length rows.old.one ≡ sequence_count input.now.form.now.sets_one }
         requires rows_two { length rows.old.two ≡ sequence_count input.now.form.now.sets_two }
         ensures { ArePlainSums input.now.form.now input.now.one.now input.now.two.now rows.new }
     {
-        input.form.facts();
-        let starts = &self.starts;
-        match &self.entries {
-            GroupEntries::Tiny(entries) => write_rows(starts, entries, input, rows),
-            GroupEntries::Small(entries) => write_rows(starts, entries, input, rows),
-            GroupEntries::Wide(entries) => write_rows(starts, entries, input, rows),
-        }
+        let Rows { one, two } = rows;
+        self.write(rt, input, one, two, &mut []);
     }
 
-    /// The same in 64 bits, if it is known that each sum has room in them.
-    pub(crate) fn write_small_to(&self, input: &RowInput<'_>, rows: &mut SmallRows) -> bool
-        requires groups { self.now.weights ≡ pair_weights input.now.form.now One }
-        requires numbers { AreNumbersOf input.now.form.now input.now.one.now input.now.two.now }
-        requires rows_one { length rows.old.one ≡ sequence_count input.now.form.now.sets_one }
-        requires rows_two { length rows.old.two ≡ sequence_count input.now.form.now.sets_two }
-        ensures fits { let most = max (greatest_of input.now.one.now) (greatest_of input.now.two.now) in
-            IsTrue result ↔ self.now.mass * most < 2 ^ 63 }
-        ensures sums { IsTrue result → ArePlainSums input.now.form.now input.now.one.now input.now.two.now rows.new }
-        ensures count_one { length rows.new.one ≡ length rows.old.one }
-        ensures count_two { length rows.new.two ≡ length rows.old.two }
-    {
-        input.form.facts();
-        if !sums_fit_word(self.mass, input.one, input.two) {
-            return false;
-        }
-        let starts = &self.starts;
-        match &self.entries {
-            GroupEntries::Tiny(entries) => write_small_rows(starts, entries, input, rows),
-            GroupEntries::Small(entries) => write_small_rows(starts, entries, input, rows),
-            GroupEntries::Wide(entries) => write_small_rows(starts, entries, input, rows),
-        }
-        true
-    }
-
-    /// The same by several threads where that pays.
-    pub(crate) fn write_small_by_threads<Rt: Threads + Sync>(
+    /// The same in 64 bits, if it is known that each sum has room in them; by several threads if there is spare room for
+    /// their rows, and that pays.
+    pub(crate) fn write_small_to<Rt: Threads + Sync>(
         &self,
         rt: &Rt,
         input: &RowInput<'_>,
         rows: &mut SmallRows,
-        spare: &mut SpareRows,
+        spare: Option<&mut SpareRows>,
     ) -> bool
         requires sync { IsSync Rt.row }
         requires groups { self.now.weights ≡ pair_weights input.now.form.now One }
@@ -161,24 +138,61 @@ impl LeafGroups {
         ensures count_one { length rows.new.one ≡ length rows.old.one }
         ensures count_two { length rows.new.two ≡ length rows.old.two }
     {
-        input.form.facts();
-        let RowInput { one, two, .. } = *input;
-        if !sums_fit_word(self.mass, one, two) {
+        if !sums_fit_word(self.mass, input.one, input.two) {
             return false;
         }
-        let starts = &self.starts;
-        match &self.entries {
-            GroupEntries::Tiny(entries) => {
-                write_small_rows_by_threads(rt, starts, entries, input, rows, spare)
-            }
-            GroupEntries::Small(entries) => {
-                write_small_rows_by_threads(rt, starts, entries, input, rows, spare)
-            }
-            GroupEntries::Wide(entries) => {
-                write_small_rows_by_threads(rt, starts, entries, input, rows, spare)
+        let SmallRows { one, two } = rows;
+        if let Some(spare) = spare {
+            if self.entry_count() >= PAYING_ENTRIES && spare.pace.is_due() {
+                let punctual = self.write(rt, input, one, two, &mut spare.rows);
+                spare.pace.note(punctual);
+                return true;
             }
         }
+        self.write(rt, input, one, two, &mut []);
         true
+    }
+
+    fn entry_count(&self) -> usize {
+        match &self.entries {
+            GroupEntries::Tiny(entries) => entries.len(),
+            GroupEntries::Small(entries) => entries.len(),
+            GroupEntries::Wide(entries) => entries.len(),
+        }
+    }
+
+    // Writes them in either width, where each sum has room, by threads as `write_rows` does.
+    fn write<Rt: Threads + Sync, R: Row + Send>(
+        &self,
+        rt: &Rt,
+        input: &RowInput<'_>,
+        own: &mut [R],
+        other: &mut [R],
+        spare: &mut [R],
+    ) -> bool
+        requires sync { IsSync Rt.row }
+        requires groups { self.now.weights ≡ pair_weights input.now.form.now One }
+        requires numbers { AreNumbersOf input.now.form.now input.now.one.now input.now.two.now }
+        requires room { let most = max (greatest_of input.now.one.now) (greatest_of input.now.two.now) in
+            self.now.mass ≤ most_mass → self.now.mass * most < R.limit }
+        requires rows_one { length own.old ≡ sequence_count input.now.form.now.sets_one }
+        requires rows_two { length other.old ≡ sequence_count input.now.form.now.sets_two }
+        ensures own { map R.amount own.new ≡ player_rows input.now.form.now One input.now.two.now }
+        ensures other { map R.amount other.new ≡ player_rows input.now.form.now Two input.now.one.now }
+    {
+        input.form.facts();
+        let starts: &[u32] = &self.starts;
+        match &self.entries {
+            GroupEntries::Tiny(entries) => write_rows(
+                rt, starts, entries, input, own, other, spare,
+            ),
+            GroupEntries::Small(entries) => write_rows(
+                rt, starts, entries, input, own, other, spare,
+            ),
+            GroupEntries::Wide(entries) => write_rows(
+                rt, starts, entries, input, own, other, spare,
+            ),
+        }
     }
 
     /// Writes for each sequence of one player the sum over its leaves against the other player's numbers. Takes no
@@ -196,19 +210,13 @@ impl LeafGroups {
         requires count { length rows.old ≡ sequence_count (player_sets form.now player) }
         ensures { rows.new ≡ player_rows form.now player against.now }
     {
-        form.facts();
+        rows.fill(0);
         let input = PlayerInput {
             form,
             player,
             against,
         };
-        rows.fill(0);
-        let starts = &self.starts;
-        match &self.entries {
-            GroupEntries::Tiny(entries) => write_alone(starts, entries, &input, rows),
-            GroupEntries::Small(entries) => write_alone(starts, entries, &input, rows),
-            GroupEntries::Wide(entries) => write_alone(starts, entries, &input, rows),
-        }
+        self.write_alone(&input, rows);
     }
 
     /// The same in 64 bits, if it is known that each sum has room in them.
@@ -227,23 +235,37 @@ impl LeafGroups {
         ensures sums { IsTrue result → rows.new ≡ player_rows form.now player against.now }
         ensures count { length rows.new ≡ length rows.old }
     {
-        form.facts();
         if !sums_fit_word(self.mass, against, against) {
             return false;
         }
+        rows.fill(0);
         let input = PlayerInput {
             form,
             player,
             against,
         };
-        rows.fill(0);
-        let starts = &self.starts;
-        match &self.entries {
-            GroupEntries::Tiny(entries) => write_alone(starts, entries, &input, rows),
-            GroupEntries::Small(entries) => write_alone(starts, entries, &input, rows),
-            GroupEntries::Wide(entries) => write_alone(starts, entries, &input, rows),
-        }
+        self.write_alone(&input, rows);
         true
+    }
+
+    // Writes one player's rows in either width, which begin with 0, where each sum has room.
+    fn write_alone<R: Row>(&self, input: &PlayerInput<'_>, rows: &mut [R])
+        requires groups { self.now.weights ≡ pair_weights input.now.form.now One }
+        requires numbers { length input.now.against.now ≡ sequence_count
+            (player_sets input.now.form.now (opponent input.now.player)) }
+        requires small { All (λ n. n ≤ most_root) input.now.against.now }
+        requires room { self.now.mass ≤ most_mass → self.now.mass * greatest_of input.now.against.now < R.limit }
+        requires count { length rows.old ≡ sequence_count (player_sets input.now.form.now input.now.player) }
+        requires zeros { (b : ℕ) → amount_of (map R.amount rows.old) b ≡ pos 0 }
+        ensures { map R.amount rows.new ≡ player_rows input.now.form.now input.now.player input.now.against.now }
+    {
+        input.form.facts();
+        let starts: &[u32] = &self.starts;
+        match &self.entries {
+            GroupEntries::Tiny(entries) => write_alone(starts, entries, input, rows),
+            GroupEntries::Small(entries) => write_alone(starts, entries, input, rows),
+            GroupEntries::Wide(entries) => write_alone(starts, entries, input, rows),
+        }
     }
 }
 
@@ -253,8 +275,8 @@ fn grouped<E: GroupEntry>(alloc: Global, form: &SeqForm) -> Result<Grouped<E>, A
     ensures { IfOk result (λ groups. AreGroupsOf form.now groups.starts.items (map E.leaf groups.entries.items)) }
 {
     form.facts();
-    let starts = starts_of(alloc, form, Player::One)?;
-    let entries = entries_of(alloc, form, Player::One, &starts)?;
+    let starts = starts_of(alloc, form)?;
+    let entries = entries_of(alloc, form, &starts)?;
     merged(alloc, &starts, &entries, form.sequence_count(Player::Two))
 }
 

@@ -1,107 +1,140 @@
-//! A range of groups, added up by two threads.
-ghost use Rattle.std.specs.Prelude.{◌≡◌, ◌≤◌, pos, length, map, replicate};
+//! A range of groups, added up by as many threads as there are rows of player two for.
+ghost use Rattle.std.specs.Prelude.{◌≡◌, ◌<◌, ◌≤◌, pos, length, map, replicate};
 ghost use Rattle.std.specs.Thread.{IsSend, IsSync};
 ghost use Rattle.xg_jobs.specs.Adding.{AddsGroups, CanAddGroups};
 
-use crate::adding::{add_groups, add_groups_afresh, add_rows};
+use crate::adding::{add_groups, add_rows};
 use crate::entry::GroupEntry;
+use crate::input::Groups;
 use crate::roll::Roll;
 use crate::row::Row;
 use std::marker::{Send, Sync};
 use std::thread::{Threads, join_mut};
 
-/// As `add_groups`, in two threads: this one adds up the first `cut` groups, the other those from there on, with rows
-/// of player two in spare room. Both sign the roll. Whether it is full then is looked for as often as is said.
-pub(crate) fn add_groups_in_two<Rt: Threads, E: GroupEntry + Sync, R: Row + Send>(
+/// As `add_groups`, in halves by two threads where the spare room has rows of player two for the second one; each half
+/// is done so, too, with half of the room that is left. Each thread signs the roll. Whether it is full then is looked
+/// for as often as is said.
+#[cycle(halves)]
+pub(crate) fn add_by_threads<Rt: Threads + Sync, E: GroupEntry + Sync, R: Row + Send>(
     rt: &Rt,
-    starts: &[u32],
-    entries: &[E],
-    one: &[u64],
-    two: &[u64],
-    cut: usize,
+    groups: &Groups<'_, E>,
+    roll: &Roll,
+    looks: usize,
     own: &mut [R],
     other: &mut [R],
     spare: &mut [R],
-    roll: &Roll,
-    looks: usize,
 ) -> bool
-    requires can { CanAddGroups R.limit starts.now (map E.leaf entries.now) one.now two.now (length own.old)
-        (map R.amount other.old) }
-    requires cut { cut ≤ length own.old }
-    requires spare { length spare.old ≡ length other.old }
-    ensures { AddsGroups starts.now (map E.leaf entries.now) one.now two.now
-        (map R.amount own.new) (map R.amount other.old) (map R.amount other.new) }
+    requires sync { IsSync Rt.row }
+    requires can { CanAddGroups R.limit groups.now.starts.now (map E.leaf groups.now.entries.now) groups.now.one.now
+        groups.now.two.now (length own.old) (replicate (length other.old) (pos 0)) }
+    ensures { AddsGroups groups.now.starts.now (map E.leaf groups.now.entries.now) groups.now.one.now groups.now.two.now
+        (map R.amount own.new) (replicate (length other.old) (pos 0)) (map R.amount other.new) }
 {
+    let room = other.len();
+    if room == 0 || spare.len() < room {
+        add_groups(groups, own, other);
+        roll.sign();
+        return roll.is_full_within(looks);
+    }
+    let cut = middle_of(groups.starts, own.len());
+    let (first_one, later_one) = groups.one.split_at(cut);
+    let (first_starts, _) = groups.starts.split_at(cut + 1);
+    let (_, later_starts) = groups.starts.split_at(cut);
+    let first = Groups {
+        starts: first_starts,
+        one: first_one,
+        ..*groups
+    };
+    let later = Groups {
+        starts: later_starts,
+        one: later_one,
+        ..*groups
+    };
     let (first_own, later_own) = own.split_at_mut(cut);
-    let (first_one, later_one) = one.split_at(cut);
-    let (first_starts, _) = starts.split_at(cut + 1);
-    let (_, later_starts) = starts.split_at(cut);
+    let (later_other, left) = spare.split_at_mut(room);
+    let (first_spare, later_spare) = left.split_at_mut(left.len() / 2);
     let full = add_halves(
         rt,
-        entries,
-        two,
-        first_starts,
-        first_one,
-        first_own,
-        other,
-        later_starts,
-        later_one,
-        later_own,
-        spare,
         roll,
         looks,
+        &first,
+        first_own,
+        other,
+        first_spare,
+        &later,
+        later_own,
+        later_other,
+        later_spare,
     );
-    add_rows(other, spare);
+    add_rows(other, later_other);
     full
 }
 
-// Adds the first groups into rows and the others into spare ones, in two threads.
-fn add_halves<Rt: Threads, E: GroupEntry + Sync, R: Row + Send>(
+// The two halves, so that what the closures require is what this function is given.
+#[cycle(halves)]
+fn add_halves<Rt: Threads + Sync, E: GroupEntry + Sync, R: Row + Send>(
     rt: &Rt,
-    entries: &[E],
-    two: &[u64],
-    starts: &[u32],
-    one: &[u64],
-    own: &mut [R],
-    other: &mut [R],
-    later_starts: &[u32],
-    later_one: &[u64],
-    later_own: &mut [R],
-    spare: &mut [R],
     roll: &Roll,
     looks: usize,
+    first: &Groups<'_, E>,
+    own: &mut [R],
+    other: &mut [R],
+    spare: &mut [R],
+    later: &Groups<'_, E>,
+    later_own: &mut [R],
+    later_other: &mut [R],
+    later_spare: &mut [R],
 ) -> bool
-    requires first { CanAddGroups R.limit starts.now (map E.leaf entries.now) one.now two.now (length own.old)
-        (map R.amount other.old) }
-    requires later { CanAddGroups R.limit later_starts.now (map E.leaf entries.now) later_one.now two.now
-        (length later_own.old) (replicate (length spare.old) (pos 0)) }
-    ensures first { AddsGroups starts.now (map E.leaf entries.now) one.now two.now
-        (map R.amount own.new) (map R.amount other.old) (map R.amount other.new) }
-    ensures later { AddsGroups later_starts.now (map E.leaf entries.now) later_one.now two.now
-        (map R.amount later_own.new) (replicate (length spare.old) (pos 0)) (map R.amount spare.new) }
+    requires sync { IsSync Rt.row }
+    requires first { CanAddGroups R.limit first.now.starts.now (map E.leaf first.now.entries.now) first.now.one.now
+        first.now.two.now (length own.old) (replicate (length other.old) (pos 0)) }
+    requires later { CanAddGroups R.limit later.now.starts.now (map E.leaf later.now.entries.now) later.now.one.now
+        later.now.two.now (length later_own.old) (replicate (length later_other.old) (pos 0)) }
+    ensures first { AddsGroups first.now.starts.now (map E.leaf first.now.entries.now) first.now.one.now
+        first.now.two.now (map R.amount own.new) (replicate (length other.old) (pos 0)) (map R.amount other.new) }
+    ensures later { AddsGroups later.now.starts.now (map E.leaf later.now.entries.now) later.now.one.now
+        later.now.two.now (map R.amount later_own.new) (replicate (length later_other.old) (pos 0))
+        (map R.amount later_other.new) }
 {
-    let mut first = || -> bool
-        requires { IsSync E.row × IsSend R.row
-            × CanAddGroups R.limit starts.now (map E.leaf entries.now) one.now two.now (length own.now)
-            (map R.amount other.now) }
-        ensures { AddsGroups starts.entry.now (map E.leaf entries.entry.now) one.entry.now two.entry.now
-            (map R.amount own.exit.now) (map R.amount other.entry.now) (map R.amount other.exit.now) }
-    {
-        add_groups(starts, entries, one, two, own, other);
-        roll.sign();
-        roll.is_full_within(looks)
-    };
-    let mut later = ||
-        requires { IsSync E.row × IsSend R.row
-            × CanAddGroups R.limit later_starts.now (map E.leaf entries.now) later_one.now two.now
-            (length later_own.now) (replicate (length spare.now) (pos 0)) }
-        ensures { AddsGroups later_starts.entry.now (map E.leaf entries.entry.now) later_one.entry.now two.entry.now
-            (map R.amount later_own.exit.now) (replicate (length spare.entry.now) (pos 0))
-            (map R.amount spare.exit.now) }
-    {
-        add_groups_afresh(later_starts, entries, later_one, two, later_own, spare);
-        roll.sign();
-    };
-    let (_, full) = join_mut(rt, &mut later, &mut first);
+    let mut one = || -> bool
+        requires { IsSync Rt.row × IsSync E.row × IsSend R.row
+            × CanAddGroups R.limit first.now.starts.now (map E.leaf first.now.entries.now) first.now.one.now
+            first.now.two.now (length own.now) (replicate (length other.now) (pos 0)) }
+        ensures { AddsGroups first.entry.now.starts.now (map E.leaf first.entry.now.entries.now)
+            first.entry.now.one.now first.entry.now.two.now (map R.amount own.exit.now)
+            (replicate (length other.entry.now) (pos 0)) (map R.amount other.exit.now) }
+    { add_by_threads(rt, first, roll, looks, own, other, spare) };
+    let mut two = || -> bool
+        requires { IsSync Rt.row × IsSync E.row × IsSend R.row
+            × CanAddGroups R.limit later.now.starts.now (map E.leaf later.now.entries.now) later.now.one.now
+            later.now.two.now (length later_own.now) (replicate (length later_other.now) (pos 0)) }
+        ensures { AddsGroups later.entry.now.starts.now (map E.leaf later.entry.now.entries.now)
+            later.entry.now.one.now later.entry.now.two.now (map R.amount later_own.exit.now)
+            (replicate (length later_other.entry.now) (pos 0)) (map R.amount later_other.exit.now) }
+    { add_by_threads(rt, later, roll, 0, later_own, later_other, later_spare) };
+    let (_, full) = join_mut(rt, &mut two, &mut one);
     full
+}
+
+// How many of so many groups begin before the middle of their entries, if groups begin in order; never more than there
+// are.
+fn middle_of(starts: &[u32], groups: usize) -> usize
+    requires { groups < length starts.now }
+    ensures { result ≤ groups }
+{
+    let entry = starts[0] / 2 + starts[groups] / 2;
+    let mut low = 0;
+    let mut high = groups;
+    for _step in 0..64 {
+        if low >= high {
+            break;
+        }
+        let middle = low + (high - low) / 2;
+        if starts[middle] < entry {
+            low = middle + 1;
+        } else {
+            high = middle;
+        }
+    }
+    low
 }

@@ -17,3 +17,14 @@ pub(crate) struct PlayerInput<'a> {
     pub(crate) player: Player,
     pub(crate) against: &'a [u64],
 }
+
+/// A range of player one's groups, with the numbers of both players that belong to them.
+#[derive(Drop)]
+pub(crate) struct Groups<'a, E> {
+    // where each group begins, and behind them where the last one ends
+    pub(crate) starts: &'a [u32],
+    pub(crate) entries: &'a [E],
+    // a number for each group, and one for each sequence of player two
+    pub(crate) one: &'a [u64],
+    pub(crate) two: &'a [u64],
+}

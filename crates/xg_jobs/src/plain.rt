@@ -33,24 +33,24 @@ impl RowMaker for PlainRows {
 
     fn rows<Rt: Threads + Wait + Sync>(
         &self,
-        _rt: &Rt,
+        rt: &Rt,
         alloc: Global,
         input: &RowInput<'_>,
         jobs: &JobTable,
     ) -> Result<Rows, AllocError> {
         let mut rows = Rows::new(alloc, input.form)?;
         let mut small = SmallRows::new(alloc, input.form)?;
-        if jobs.write_small_to(input, &mut small) {
+        if jobs.write_small_to(rt, input, &mut small, None) {
             rows.widen(&small);
         } else {
-            jobs.write_to(input, &mut rows);
+            jobs.write_to(rt, input, &mut rows);
         }
         Ok(rows)
     }
 
     fn small_rows<Rt: Threads + Sync>(
         &self,
-        _rt: &Rt,
+        rt: &Rt,
         input: &RowInput<'_>,
         jobs: &JobTable,
         rows: &mut SmallRows,
@@ -68,6 +68,6 @@ impl RowMaker for PlainRows {
         ensures count_one { length rows.new.one ≡ length rows.old.one }
         ensures count_two { length rows.new.two ≡ length rows.old.two }
     {
-        jobs.write_small_to(input, rows)
+        jobs.write_small_to(rt, input, rows, None)
     }
 }

@@ -4,13 +4,11 @@ use def_tree::Player;
 use std::alloc::{AllocError, Global};
 use xg_seq::SeqForm;
 
-/// Room for player two's rows in three further threads, with the pace at which they are started, and whether a thread
-/// pays for each player's work, too.
+/// Room for player two's rows in all threads but the first, with the pace at which they are started, and whether a
+/// thread pays for each player's work, too.
 #[derive(Drop)]
 pub(crate) struct SpareRows {
-    pub(crate) second: Vec<i64>,
-    pub(crate) third: Vec<i64>,
-    pub(crate) fourth: Vec<i64>,
+    pub(crate) rows: Vec<i64>,
     pub(crate) for_players: bool,
     pub(crate) pace: Pace,
 }
@@ -18,19 +16,24 @@ pub(crate) struct SpareRows {
 impl SpareRows {
     /// For a form with so many leaves that threads may pay, and else without room.
     pub(crate) fn new(alloc: Global, form: &SeqForm) -> Result<SpareRows, AllocError> {
+        let one = form.sequence_count(Player::One) as usize;
         let two = form.sequence_count(Player::Two) as usize;
         let pays = form.leaf_count() as usize >= PAYING_ENTRIES;
-        let rows = if pays { two } else { 0 };
+        let rows = if pays {
+            (THREADS - 1) as usize * two
+        } else {
+            0
+        };
         Ok(SpareRows {
-            second: vec![in alloc; 0; rows]?,
-            third: vec![in alloc; 0; rows]?,
-            fourth: vec![in alloc; 0; rows]?,
-            for_players: pays
-                && form.sequence_count(Player::One) as usize + two >= PAYING_SEQUENCES,
+            rows: vec![in alloc; 0; rows]?,
+            for_players: pays && one + two >= PAYING_SEQUENCES,
             pace: Pace::new(),
         })
     }
 }
+
+/// How many threads make rows where several pay.
+pub(crate) const THREADS: u64 = 4;
 
 /// How many entries pay for three threads' start in each round.
 pub(crate) const PAYING_ENTRIES: usize = 200_000;

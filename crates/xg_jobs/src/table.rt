@@ -165,38 +165,30 @@ impl JobTable {
     }
 
     /// Writes the sums over all leaves. Takes no memory.
-    pub(crate) fn write_to(&self, input: &RowInput<'_>, rows: &mut Rows)
+    pub(crate) fn write_to<Rt: Threads + Sync>(
+        &self,
+        rt: &Rt,
+        input: &RowInput<'_>,
+        rows: &mut Rows,
+    )
+        requires sync { IsSync Rt.row }
         requires numbers { AreNumbersOf input.now.form.now input.now.one.now input.now.two.now }
         requires table { HasLeavesOf input.now.form.now self.now }
         requires rows_one { length rows.old.one ≡ sequence_count input.now.form.now.sets_one }
         requires rows_two { length rows.old.two ≡ sequence_count input.now.form.now.sets_two }
         ensures { ArePlainSums input.now.form.now input.now.one.now input.now.two.now rows.new }
     {
-        self.groups.write_to(input, rows)
+        self.groups.write_to(rt, input, rows)
     }
 
-    /// The same in 64 bits, if it is known that each sum has room in them.
-    pub(crate) fn write_small_to(&self, input: &RowInput<'_>, rows: &mut SmallRows) -> bool
-        requires numbers { AreNumbersOf input.now.form.now input.now.one.now input.now.two.now }
-        requires table { HasLeavesOf input.now.form.now self.now }
-        requires rows_one { length rows.old.one ≡ sequence_count input.now.form.now.sets_one }
-        requires rows_two { length rows.old.two ≡ sequence_count input.now.form.now.sets_two }
-        ensures fits { let most = max (greatest_of input.now.one.now) (greatest_of input.now.two.now) in
-            IsTrue result ↔ self.now.mass * most < 2 ^ 63 }
-        ensures sums { IsTrue result → ArePlainSums input.now.form.now input.now.one.now input.now.two.now rows.new }
-        ensures count_one { length rows.new.one ≡ length rows.old.one }
-        ensures count_two { length rows.new.two ≡ length rows.old.two }
-    {
-        self.groups.write_small_to(input, rows)
-    }
-
-    /// The same by several threads where that pays.
-    pub(crate) fn write_small_by_threads<Rt: Threads + Sync>(
+    /// The same in 64 bits, if it is known that each sum has room in them; by several threads if there is spare room for
+    /// their rows, and that pays.
+    pub(crate) fn write_small_to<Rt: Threads + Sync>(
         &self,
         rt: &Rt,
         input: &RowInput<'_>,
         rows: &mut SmallRows,
-        spare: &mut SpareRows,
+        spare: Option<&mut SpareRows>,
     ) -> bool
         requires sync { IsSync Rt.row }
         requires numbers { AreNumbersOf input.now.form.now input.now.one.now input.now.two.now }
@@ -209,7 +201,7 @@ impl JobTable {
         ensures count_one { length rows.new.one ≡ length rows.old.one }
         ensures count_two { length rows.new.two ≡ length rows.old.two }
     {
-        self.groups.write_small_by_threads(rt, input, rows, spare)
+        self.groups.write_small_to(rt, input, rows, spare)
     }
 
     /// Writes the leaf sum of each sequence of one player against the other player's numbers, in player one's payoff.

@@ -87,8 +87,8 @@ impl RowMaker for ThreadedRows {
         ensures count_two { length rows.new.two ≡ length rows.old.two }
     {
         match self.spare.try_borrow_mut() {
-            Ok(mut spare) => jobs.write_small_by_threads(rt, input, rows, &mut spare),
-            Err(_) => jobs.write_small_to(input, rows),
+            Ok(mut spare) => jobs.write_small_to(rt, input, rows, Some(&mut spare)),
+            Err(_) => jobs.write_small_to(rt, input, rows, None),
         }
     }
 }

@@ -1,79 +1,58 @@
 //! All rows from the groups, in either width.
-ghost use Rattle.std.specs.Prelude.{◌≡◌, ℕ, ◌^◌, ◌≤◌, All, length, map, pos};
+ghost use Rattle.std.specs.Prelude.{◌≡◌, ℕ, ◌≤◌, All, length, map, pos};
+ghost use Rattle.std.specs.Thread.{IsSync};
 ghost use Rattle.def_sums.specs.Limits.{most_root};
 ghost use Rattle.def_tree.specs.Opponent.{opponent};
 ghost use Rattle.def_plan.specs.Form.{player_sets, sequence_count};
 ghost use Rattle.def_plan.specs.FormRows.{amount_of, player_rows};
 ghost use Rattle.def_tree.specs.declared.Player.TheVariants.{One, Two};
-ghost use Rattle.xg_jobs.specs.Rows.{AreNumbersOf, ArePlainSums};
+ghost use Rattle.xg_jobs.specs.Rows.{AreNumbersOf};
 ghost use Rattle.xg_jobs.specs.Writing.{CanWrite};
 
 use crate::alone::{spread_groups, sum_groups};
-use crate::both::both_rows;
 use crate::entry::GroupEntry;
-use crate::input::{PlayerInput, RowInput};
+use crate::halves::add_by_threads;
+use crate::input::{Groups, PlayerInput, RowInput};
+use crate::roll::Roll;
 use crate::row::Row;
-use crate::rows::{Rows, SmallRows};
+use crate::spare::THREADS;
 use def_tree::Player;
+use std::marker::{Send, Sync};
+use std::thread::Threads;
 
-/// Writes the rows of both players by one pass over player one's groups. Takes no memory.
-pub(crate) fn write_rows<E: GroupEntry>(
-    starts: &[u32],
-    entries: &[E],
-    input: &RowInput<'_>,
-    rows: &mut Rows,
-)
-    requires numbers { AreNumbersOf input.now.form.now input.now.one.now input.now.two.now }
-    requires can { CanWrite (2 ^ 127) starts.now (map E.leaf entries.now) input.now.form.now input.now.one.now
-        input.now.two.now }
-    requires rows_one { length rows.old.one ≡ sequence_count input.now.form.now.sets_one }
-    requires rows_two { length rows.old.two ≡ sequence_count input.now.form.now.sets_two }
-    ensures { ArePlainSums input.now.form.now input.now.one.now input.now.two.now rows.new }
-{
-    rows.two.fill(0);
-    sum_rows(starts, entries, input, &mut rows.one, &mut rows.two);
-}
-
-/// The same in 64 bits, where each sum has room in them.
-pub(crate) fn write_small_rows<E: GroupEntry>(
-    starts: &[u32],
-    entries: &[E],
-    input: &RowInput<'_>,
-    rows: &mut SmallRows,
-)
-    requires numbers { AreNumbersOf input.now.form.now input.now.one.now input.now.two.now }
-    requires fits { CanWrite (2 ^ 63) starts.now (map E.leaf entries.now) input.now.form.now input.now.one.now
-        input.now.two.now }
-    requires rows_one { length rows.old.one ≡ sequence_count input.now.form.now.sets_one }
-    requires rows_two { length rows.old.two ≡ sequence_count input.now.form.now.sets_two }
-    ensures sums { ArePlainSums input.now.form.now input.now.one.now input.now.two.now rows.new }
-    ensures count_one { length rows.new.one ≡ length rows.old.one }
-    ensures count_two { length rows.new.two ≡ length rows.old.two }
-{
-    let SmallRows { one, two } = rows;
-    two.fill(0);
-    sum_rows(starts, entries, input, one, two);
-}
-
-// The sums of both players' rows, of which those of player two begin with 0.
-fn sum_rows<E: GroupEntry, R: Row>(
+/// Writes the rows of both players by one pass over player one's groups: by four threads if there is spare room for
+/// player two's rows in three of them, and by one if there is none. Takes no memory.
+///
+/// Whether the other threads had ended when they were looked for. They are looked for twice as often as there are
+/// entries, so that few are taken for late which win time.
+pub(crate) fn write_rows<Rt: Threads + Sync, E: GroupEntry + Sync, R: Row + Send>(
+    rt: &Rt,
     starts: &[u32],
     entries: &[E],
     input: &RowInput<'_>,
     own: &mut [R],
     other: &mut [R],
-)
+    spare: &mut [R],
+) -> bool
+    requires sync { IsSync Rt.row }
     requires numbers { AreNumbersOf input.now.form.now input.now.one.now input.now.two.now }
     requires can { CanWrite R.limit starts.now (map E.leaf entries.now) input.now.form.now input.now.one.now
         input.now.two.now }
     requires rows_one { length own.old ≡ sequence_count input.now.form.now.sets_one }
     requires rows_two { length other.old ≡ sequence_count input.now.form.now.sets_two }
-    requires zeros { (b : ℕ) → amount_of (map R.amount other.old) b ≡ pos 0 }
     ensures own { map R.amount own.new ≡ player_rows input.now.form.now One input.now.two.now }
     ensures other { map R.amount other.new ≡ player_rows input.now.form.now Two input.now.one.now }
 {
     let RowInput { one, two, .. } = *input;
-    both_rows(starts, entries, one, two, own, other);
+    let groups = Groups {
+        starts,
+        entries,
+        one,
+        two,
+    };
+    let roll = Roll::new(if spare.is_empty() { 1 } else { THREADS });
+    let looks = entries.len().saturating_mul(2);
+    add_by_threads(rt, &groups, &roll, looks, own, other, spare)
 }
 
 /// Writes one player's rows, which begin with 0. Takes no memory.

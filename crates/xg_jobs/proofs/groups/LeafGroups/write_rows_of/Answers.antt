@@ -1,22 +1,7 @@
-use Rattle.std.proofs.Common.{map, sym, ap, ◌∙◌}
-use Rattle.xg_jobs.specs.Entries.{leaves_of_group, small_leaf, tiny_leaf, wide_leaf}
-use Rattle.xg_jobs.proofs.FormRows.{can_write, wide_room}
+use Rattle.def_sums.specs.Limits.{most_root}
+use Rattle.xg_jobs.proofs.FormRows.{wide_room}
+use Rattle.xg_jobs.proofs.Greatest.{greatest_within}
 use Rattle.xg_jobs.proofs.groups.LeafGroups.write_rows_of.Goals as goal
 
-pub write_alone-requires-clause-can : goal.write_alone-requires-clause-can
-write_alone-requires-clause-can c =
-    can_write c.self.invariant.0 c.self.view_is c.requires.groups c.facts.ensures.sequences c.deref.ensures.value
-    (ap (map tiny_leaf) c.deref-in-Tiny.ensures.value ∙ sym (ap leaves_of_group c.in-Tiny.is))
-    (wide_room _ _ c.self.invariant.0 c.requires.small c.requires.small)
-
-pub write_alone-requires-in-Small-clause-can : goal.write_alone-requires-in-Small-clause-can
-write_alone-requires-in-Small-clause-can c =
-    can_write c.self.invariant.0 c.self.view_is c.requires.groups c.facts.ensures.sequences c.deref-in-Small.ensures.value
-    (ap (map small_leaf) c.deref-in-Small-2.ensures.value ∙ sym (ap leaves_of_group c.in-Small.is))
-    (wide_room _ _ c.self.invariant.0 c.requires.small c.requires.small)
-
-pub write_alone-requires-in-Wide-clause-can : goal.write_alone-requires-in-Wide-clause-can
-write_alone-requires-in-Wide-clause-can c =
-    can_write c.self.invariant.0 c.self.view_is c.requires.groups c.facts.ensures.sequences c.deref-in-Wide.ensures.value
-    (ap (map wide_leaf) c.deref-in-Wide-2.ensures.value ∙ sym (ap leaves_of_group c.in-Wide.is))
-    (wide_room _ _ c.self.invariant.0 c.requires.small c.requires.small)
+pub write_alone-requires-clause-room : goal.write_alone-requires-clause-room
+write_alone-requires-clause-room c = wide_room _ _ (greatest_within c.args.against.now most_root c.requires.small)

@@ -1,5 +1,0 @@
-use Rattle.std.proofs.Common.{◌≤◌}
-use Rattle.xg_jobs.proofs.sharing.cut_at.Given as goal
-
-abbrev pub invariant-loop-step : goal.invariant-loop-step
-invariant-loop-step l = (l.low ≤ l.high) × (l.high ≤ l.fn.groups)
