@@ -143,7 +143,8 @@ impl LeafGroups {
         }
         let SmallRows { one, two } = rows;
         if let Some(spare) = spare {
-            if self.entry_count() >= PAYING_ENTRIES && spare.pace.is_due() {
+            let entries = self.starts[self.starts.len() - 1];
+            if entries >= PAYING_ENTRIES && spare.pace.is_due() {
                 let punctual = self.write(rt, input, one, two, &mut spare.rows);
                 spare.pace.note(punctual);
                 return true;
@@ -151,14 +152,6 @@ impl LeafGroups {
         }
         self.write(rt, input, one, two, &mut []);
         true
-    }
-
-    fn entry_count(&self) -> usize {
-        match &self.entries {
-            GroupEntries::Tiny(entries) => entries.len(),
-            GroupEntries::Small(entries) => entries.len(),
-            GroupEntries::Wide(entries) => entries.len(),
-        }
     }
 
     // Writes them in either width, where each sum has room, by threads as `write_rows` does.

@@ -34,7 +34,7 @@ impl Row for i64 {
     }
 
     fn plus_product(&self, w: i64, n: u64) -> i64 {
-        plus(*self, times(w, n))
+        plus(*self, w * n as i64)
     }
 
     fn plus_row(&self, other: &i64) -> i64 {
@@ -58,14 +58,6 @@ impl Row for i128 {
     fn plus_row(&self, other: &i128) -> i128 {
         plus_wide(*self, *other)
     }
-}
-
-fn times(w: i64, n: u64) -> i64
-    requires small { n < past_number }
-    requires within { unsigned_abs w * n < 2 ^ 63 }
-    ensures { result ≡ w *ℤ pos n }
-{
-    w * n as i64
 }
 
 fn plus(a: i64, b: i64) -> i64

@@ -18,7 +18,7 @@ impl SpareRows {
     pub(crate) fn new(alloc: Global, form: &SeqForm) -> Result<SpareRows, AllocError> {
         let one = form.sequence_count(Player::One) as usize;
         let two = form.sequence_count(Player::Two) as usize;
-        let pays = form.leaf_count() as usize >= PAYING_ENTRIES;
+        let pays = form.leaf_count() >= PAYING_ENTRIES;
         let rows = if pays {
             (THREADS - 1) as usize * two
         } else {
@@ -36,7 +36,7 @@ impl SpareRows {
 pub(crate) const THREADS: u64 = 4;
 
 /// How many entries pay for three threads' start in each round.
-pub(crate) const PAYING_ENTRIES: usize = 200_000;
+pub(crate) const PAYING_ENTRIES: u32 = 200_000;
 
 /// How many sequences of both players pay for the start of one thread more in each round.
 const PAYING_SEQUENCES: usize = 20_000;

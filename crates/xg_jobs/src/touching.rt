@@ -21,7 +21,7 @@ pub(crate) fn touched_of(
 {
     let row_count = form.sequence_count(Player::One) + form.sequence_count(Player::Two);
     let mut places = vec![in alloc; 0u32; row_count as usize]?;
-    let mut touched = Vec::with_capacity(alloc, ranges.len())?;
+    let mut touched = Vec::new(alloc);
     for range in ranges {
         let rows = TouchedRows::build(alloc, form, range.first, range.count, &mut places)?;
         touched.push(rows)?;
