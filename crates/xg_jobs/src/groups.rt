@@ -1,5 +1,5 @@
 //! The groups of player one's sequences, with the smallest entries that have room.
-ghost use Rattle.std.specs.Prelude.{◌≡◌, ◌↔◌, ℕ, ◌*◌, ◌^◌, ◌<◌, ◌≤◌, max, All, IfOk, IsTrue, length, map, pos};
+ghost use Rattle.std.specs.Prelude.{◌≡◌, ℕ, ◌*◌, ◌<◌, ◌≤◌, max, All, IfOk, length, map, pos};
 ghost use Rattle.std.specs.Thread.{IsSync};
 ghost use Rattle.def_sums.specs.Limits.{most_mass, most_root};
 ghost use Rattle.def_tree.specs.declared.Player.TheVariants.{One, Two};
@@ -11,7 +11,7 @@ ghost use Rattle.xg_jobs.specs.Entries.{AreGroupsOf};
 ghost use Rattle.xg_jobs.specs.Grouping.{pair_weights};
 ghost use Rattle.xg_jobs.specs.Groups.{greatest_of};
 ghost use Rattle.xg_jobs.specs.Merging.{HasRoomUpTo};
-ghost use Rattle.xg_jobs.specs.Rows.{AreNumbersOf, ArePlainSums};
+ghost use Rattle.xg_jobs.specs.Rows.{AreNumbersOf};
 
 use crate::entry::{GroupEntries, GroupEntry, SmallEntry, WideEntry};
 use crate::grouping::{entries_of, starts_of};
@@ -19,11 +19,8 @@ use crate::input::{PlayerInput, RowInput};
 use crate::merging::{Grouped, merged};
 use crate::packing::MergedEntry;
 use crate::row::Row;
-use crate::rows::{Rows, SmallRows};
-use crate::sizes::{greatest_number, total_mass};
-use crate::spare::{PAYING_ENTRIES, SpareRows};
+use crate::sizes::total_mass;
 use crate::writing::{write_alone, write_rows};
-use def_sums::MOST_ROOT;
 use def_tree::Player;
 use std::alloc::{AllocError, Global};
 use std::marker::{Model, Send, Sync};
@@ -99,63 +96,14 @@ impl LeafGroups {
         self.mass
     }
 
-    /// Writes for each sequence of each player the sum over its leaves against the other player's numbers. Takes no
-    /// memory.
-    pub(crate) fn write_to<Rt: Threads + Sync>(
-        &self,
-        rt: &Rt,
-        input: &RowInput<'_>,
-        rows: &mut Rows,
-    )
-        requires sync { IsSync Rt.row }
-        requires groups { self.now.weights ≡ pair_weights input.now.form.now One }
-        requires numbers { AreNumbersOf input.now.form.now input.now.one.now input.now.two.now }
-        requires rows_one { length rows.old.one ≡ sequence_count input.now.form.now.sets_one }
-        requires rows_two { length rows.old.two ≡ sequence_count input.now.form.now.sets_two }
-        ensures { ArePlainSums input.now.form.now input.now.one.now input.now.two.now rows.new }
-    {
-        let Rows { one, two } = rows;
-        self.write(rt, input, one, two, &mut []);
+    /// How many entries the groups have.
+    pub(crate) fn entry_count(&self) -> u32 {
+        self.starts[self.starts.len() - 1]
     }
 
-    /// The same in 64 bits, if it is known that each sum has room in them; by several threads if there is spare room for
-    /// their rows, and that pays.
-    pub(crate) fn write_small_to<Rt: Threads + Sync>(
-        &self,
-        rt: &Rt,
-        input: &RowInput<'_>,
-        rows: &mut SmallRows,
-        spare: Option<&mut SpareRows>,
-    ) -> bool
-        requires sync { IsSync Rt.row }
-        requires groups { self.now.weights ≡ pair_weights input.now.form.now One }
-        requires numbers { AreNumbersOf input.now.form.now input.now.one.now input.now.two.now }
-        requires rows_one { length rows.old.one ≡ sequence_count input.now.form.now.sets_one }
-        requires rows_two { length rows.old.two ≡ sequence_count input.now.form.now.sets_two }
-        ensures fits { let most = max (greatest_of input.now.one.now) (greatest_of input.now.two.now) in
-            IsTrue result ↔ self.now.mass * most < 2 ^ 63 }
-        ensures sums { IsTrue result → ArePlainSums input.now.form.now input.now.one.now input.now.two.now rows.new }
-        ensures count_one { length rows.new.one ≡ length rows.old.one }
-        ensures count_two { length rows.new.two ≡ length rows.old.two }
-    {
-        if !sums_fit_word(self.mass, input.one, input.two) {
-            return false;
-        }
-        let SmallRows { one, two } = rows;
-        if let Some(spare) = spare {
-            let entries = self.starts[self.starts.len() - 1];
-            if entries >= PAYING_ENTRIES && spare.pace.is_due() {
-                let punctual = self.write(rt, input, one, two, &mut spare.rows);
-                spare.pace.note(punctual);
-                return true;
-            }
-        }
-        self.write(rt, input, one, two, &mut []);
-        true
-    }
-
-    // Writes them in either width, where each sum has room, by threads as `write_rows` does.
-    fn write<Rt: Threads + Sync, R: Row + Send>(
+    /// Writes for each sequence of each player the sum over its leaves against the other player's numbers, where each
+    /// has room, by threads as `write_rows` does.
+    pub(crate) fn write<Rt: Threads + Sync, R: Row + Send>(
         &self,
         rt: &Rt,
         input: &RowInput<'_>,
@@ -188,61 +136,9 @@ impl LeafGroups {
         }
     }
 
-    /// Writes for each sequence of one player the sum over its leaves against the other player's numbers. Takes no
-    /// memory.
-    pub(crate) fn write_rows_of(
-        &self,
-        form: &SeqForm,
-        player: Player,
-        against: &[u64],
-        rows: &mut [i128],
-    )
-        requires groups { self.now.weights ≡ pair_weights form.now One }
-        requires numbers { length against.now ≡ sequence_count (player_sets form.now (opponent player)) }
-        requires small { All (λ n. n ≤ most_root) against.now }
-        requires count { length rows.old ≡ sequence_count (player_sets form.now player) }
-        ensures { rows.new ≡ player_rows form.now player against.now }
-    {
-        rows.fill(0);
-        let input = PlayerInput {
-            form,
-            player,
-            against,
-        };
-        self.write_alone(&input, rows);
-    }
-
-    /// The same in 64 bits, if it is known that each sum has room in them.
-    pub(crate) fn write_small_rows_of(
-        &self,
-        form: &SeqForm,
-        player: Player,
-        against: &[u64],
-        rows: &mut [i64],
-    ) -> bool
-        requires groups { self.now.weights ≡ pair_weights form.now One }
-        requires numbers { length against.now ≡ sequence_count (player_sets form.now (opponent player)) }
-        requires small { All (λ n. n ≤ most_root) against.now }
-        requires count { length rows.old ≡ sequence_count (player_sets form.now player) }
-        ensures fits { IsTrue result ↔ self.now.mass * greatest_of against.now < 2 ^ 63 }
-        ensures sums { IsTrue result → rows.new ≡ player_rows form.now player against.now }
-        ensures count { length rows.new ≡ length rows.old }
-    {
-        if !sums_fit_word(self.mass, against, against) {
-            return false;
-        }
-        rows.fill(0);
-        let input = PlayerInput {
-            form,
-            player,
-            against,
-        };
-        self.write_alone(&input, rows);
-        true
-    }
-
-    // Writes one player's rows in either width, which begin with 0, where each sum has room.
-    fn write_alone<R: Row>(&self, input: &PlayerInput<'_>, rows: &mut [R])
+    /// Writes for each sequence of one player the sum over its leaves against the other player's numbers, where each
+    /// has room. The rows begin with 0.
+    pub(crate) fn write_alone<R: Row>(&self, input: &PlayerInput<'_>, rows: &mut [R])
         requires groups { self.now.weights ≡ pair_weights input.now.form.now One }
         requires numbers { length input.now.against.now ≡ sequence_count
             (player_sets input.now.form.now (opponent input.now.player)) }
@@ -271,20 +167,4 @@ fn grouped<E: GroupEntry>(alloc: Global, form: &SeqForm) -> Result<Grouped<E>, A
     let starts = starts_of(alloc, form)?;
     let entries = entries_of(alloc, form, &starts)?;
     merged(alloc, &starts, &entries, form.sequence_count(Player::Two))
-}
-
-// Whether each sum is within 64 bits, with its sign. Light weights tell it whatever the numbers are.
-fn sums_fit_word(mass: u64, one: &[u64], two: &[u64]) -> bool
-    requires small_one { All (λ n. n ≤ most_root) one.now }
-    requires small_two { All (λ n. n ≤ most_root) two.now }
-    ensures { IsTrue result ↔ mass * max (greatest_of one.now) (greatest_of two.now) < 2 ^ 63 }
-{
-    fits_word(mass, MOST_ROOT) || fits_word(mass, greatest_number(one, two))
-}
-
-// Whether a sum of products is within 64 bits, with its sign.
-fn fits_word(mass: u64, most: u64) -> bool
-    ensures { IsTrue result ↔ mass * most < 2 ^ 63 }
-{
-    (mass as u128) * (most as u128) < 1 << 63
 }

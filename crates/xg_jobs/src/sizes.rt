@@ -1,9 +1,11 @@
 //! Sizes of weights and of numbers, by which sums of their products have room.
-ghost use Rattle.std.specs.Prelude.{◌≡◌, All, max};
+ghost use Rattle.std.specs.Prelude.{◌≡◌, ◌↔◌, ◌*◌, ◌^◌, ◌<◌, ◌≤◌, All, IsTrue, max};
+ghost use Rattle.def_sums.specs.Limits.{most_root};
 ghost use Rattle.def_plan.specs.Payoff.{mass_of};
 ghost use Rattle.xg_seq.specs.Leaves.{HasSequences};
 ghost use Rattle.xg_jobs.specs.Groups.{greatest_of};
 
+use def_sums::MOST_ROOT;
 use xg_seq::SeqForm;
 
 /// The sizes of all weights together.
@@ -37,4 +39,20 @@ fn greatest(numbers: &[u64]) -> u64
         }
     }
     greatest
+}
+
+/// Whether each sum is within 64 bits, with its sign. Light weights tell it whatever the numbers are.
+pub(crate) fn sums_fit_word(mass: u64, one: &[u64], two: &[u64]) -> bool
+    requires small_one { All (λ n. n ≤ most_root) one.now }
+    requires small_two { All (λ n. n ≤ most_root) two.now }
+    ensures { IsTrue result ↔ mass * max (greatest_of one.now) (greatest_of two.now) < 2 ^ 63 }
+{
+    fits_word(mass, MOST_ROOT) || fits_word(mass, greatest_number(one, two))
+}
+
+// Whether a sum of products is within 64 bits, with its sign.
+fn fits_word(mass: u64, most: u64) -> bool
+    ensures { IsTrue result ↔ mass * most < 2 ^ 63 }
+{
+    (mass as u128) * (most as u128) < 1 << 63
 }

@@ -19,9 +19,10 @@ ghost use Rattle.xg_jobs.specs.Table.{HasLeavesOf, IsFormOf, IsTableOf, job_tabl
 
 use crate::cutting::ranges_of;
 use crate::groups::LeafGroups;
-use crate::input::RowInput;
+use crate::input::{PlayerInput, RowInput};
 use crate::rows::{Rows, SmallRows};
-use crate::spare::SpareRows;
+use crate::sizes::sums_fit_word;
+use crate::spare::{PAYING_ENTRIES, SpareRows};
 use crate::touching::{most_rows, touched_of};
 use def_tree::Player;
 use std::alloc::{AllocError, Global};
@@ -178,7 +179,8 @@ impl JobTable {
         requires rows_two { length rows.old.two ≡ sequence_count input.now.form.now.sets_two }
         ensures { ArePlainSums input.now.form.now input.now.one.now input.now.two.now rows.new }
     {
-        self.groups.write_to(rt, input, rows)
+        let Rows { one, two } = rows;
+        self.groups.write(rt, input, one, two, &mut []);
     }
 
     /// The same in 64 bits, if it is known that each sum has room in them; by several threads if there is spare room for
@@ -201,7 +203,19 @@ impl JobTable {
         ensures count_one { length rows.new.one ≡ length rows.old.one }
         ensures count_two { length rows.new.two ≡ length rows.old.two }
     {
-        self.groups.write_small_to(rt, input, rows, spare)
+        if !sums_fit_word(self.mass(), input.one, input.two) {
+            return false;
+        }
+        let SmallRows { one, two } = rows;
+        if let Some(spare) = spare {
+            if self.groups.entry_count() >= PAYING_ENTRIES && spare.pace.is_due() {
+                let punctual = self.groups.write(rt, input, one, two, &mut spare.rows);
+                spare.pace.note(punctual);
+                return true;
+            }
+        }
+        self.groups.write(rt, input, one, two, &mut []);
+        true
     }
 
     /// Writes the leaf sum of each sequence of one player against the other player's numbers, in player one's payoff.
@@ -213,7 +227,13 @@ impl JobTable {
         requires count { length rows.old ≡ sequence_count (player_sets form.now player) }
         ensures { rows.new ≡ player_rows form.now player against.now }
     {
-        self.groups.write_rows_of(form, player, against, rows)
+        rows.fill(0);
+        let input = PlayerInput {
+            form,
+            player,
+            against,
+        };
+        self.groups.write_alone(&input, rows);
     }
 
     /// Writes the same in 64 bits, if it is known that each sum has room in them. Takes no memory.
@@ -232,6 +252,16 @@ impl JobTable {
         ensures sums { IsTrue result → rows.new ≡ player_rows form.now player against.now }
         ensures count { length rows.new ≡ length rows.old }
     {
-        self.groups.write_small_rows_of(form, player, against, rows)
+        if !sums_fit_word(self.mass(), against, against) {
+            return false;
+        }
+        rows.fill(0);
+        let input = PlayerInput {
+            form,
+            player,
+            against,
+        };
+        self.groups.write_alone(&input, rows);
+        true
     }
 }

@@ -3,7 +3,7 @@ use Rattle.std.proofs.Math.Nat.{mul-le-mul_left}
 use Rattle.def_sums.specs.Limits.{most_root}
 use Rattle.xg_jobs.specs.Groups.{greatest_of}
 use Rattle.xg_jobs.proofs.Greatest.{both_within}
-use Rattle.xg_jobs.proofs.groups.sums_fit_word.Goals as goal
+use Rattle.xg_jobs.proofs.sizes.sums_fit_word.Goals as goal
 
 pub returns-then-fits_word : goal.returns-then-fits_word
 returns-then-fits_word c =
