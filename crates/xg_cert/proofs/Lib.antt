@@ -7,3 +7,4 @@ pub mod CertificateAnswerLaws
 pub mod ManyRead
 pub mod FormEnds
 pub mod Seconds
+pub mod WholeRead

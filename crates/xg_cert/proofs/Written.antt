@@ -11,11 +11,11 @@ use Rattle.def_cert_text.specs.Fields.{space, feed, FieldKind, TextItem, field, 
 use Rattle.def_cert_text.proofs.FormatLaws.{items_text-append}
 use Rattle.def_reply.specs.Outcome.{Head}
 use Rattle.def_cert_text.specs.Formats.{Format, text_of, each_items, row_items}
-use Rattle.def_cert_text.specs.CertText.{payoff_lines, head_text_of}
+use Rattle.def_cert_text.specs.CertText.{payoff_lines, head_text_of, asked_line, asked_text}
 use Rattle.def_cert_text.specs.declared.version.TextVersion.{TextVersion}
 use Rattle.xg_cert.specs.declared.items.Item.{Item}
 use Rattle.xg_cert.specs.Items.{field_kind, field_bytes, separator_of, items_of}
-use Rattle.xg_cert.specs.Writes.{field_text, counts_items, counts_text, units_text}
+use Rattle.xg_cert.specs.Writes.{field_text, counts_items, counts_text, units_items, units_text}
 
 -- ---- items
 
@@ -80,6 +80,15 @@ then_two before middle now k l w v s t items r e h =
 pub head-parts : (v : TextVersion) (head : Head) → counts_text head ++ units_text v head ≡ head_text_of v head
 head-parts v head =
     sym (items_text-append (counts_items head) ((payoff_lines v).items ((head.unit, head.sum), head.mass)))
+
+-- and what was asked stands behind them
+pub above-parts : (v : TextVersion) (head : Head)
+    → counts_text head ++ items_text (units_items v head ++ asked_line.items (head.rounds, (head.every, head.scale)))
+    ≡ head_text_of v head ++ asked_text head
+above-parts v head =
+    ap (λ (text : List ℕ). counts_text head ++ text) (items_text-append (units_items v head) (asked_line.items (head.rounds, (head.every, head.scale))))
+    ∙ sym (append_assoc (counts_text head) (units_text v head) (asked_text head))
+    ∙ ap (λ (text : List ℕ). text ++ asked_text head) (head-parts v head)
 
 -- ---- loops
 

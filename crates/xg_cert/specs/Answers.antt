@@ -2,6 +2,8 @@
 use Rattle.std.specs.Prelude.{◌≡◌, ℕ, List, ◌++◌, Result, Ok, Err, ⊤}
 use Rattle.def_cert_text.specs.declared.fault.CertFault.{CertFault}
 use Rattle.def_cert_text.specs.Fields.{◌>>=◌}
+use Rattle.def_cert_text.specs.Formats.{Format}
+use Rattle.def_cert_text.specs.CertText.{if_at_end}
 use Rattle.xg_cert.specs.declared.refused.CertRefused.{CertRefused}
 use Rattle.xg_cert.specs.declared.refused.CertRefused.TheVariants.{Cert, NoMemory}
 
@@ -15,10 +17,14 @@ abbrev pub AnswersCertificate : {X : Type 0} → Result X CertRefused → Result
 AnswersCertificate (Ok x) read = read ≡ Ok x
 AnswersCertificate (Err refused) read = Fails refused read
 
--- the same of a value seen by `view`
-abbrev pub AnswersAs : {X Y : Type 0} → (X → Y) → Result X CertRefused → Result Y CertFault → Type 0
-AnswersAs view (Ok x) read = read ≡ Ok (view x)
-AnswersAs view (Err refused) read = Fails refused read
+-- a value, seen by `view`, or the fault
+abbrev pub Gives : {X Y : Type 0} → (X → Y) → Result X CertFault → Result Y CertFault → Type 0
+Gives view (Ok x) read = read ≡ Ok (view x)
+Gives view (Err fault) read = read ≡ Err fault
+
+-- what reading gives up to the end of the text
+abbrev pub text_read : {X : Type 0} → Format X → ℕ → List ℕ → Result X CertFault
+text_read f total bytes = f.read total bytes >>= λ x. if_at_end total x.0 x.1
 
 -- a value, seen by `view`, and the bytes behind it
 abbrev pub GivesValueFor : {X Y : Type 0} → (X → Y) → Result X CertRefused → List ℕ → Result (Y × List ℕ) CertFault

@@ -10,7 +10,6 @@ use Rattle.def_cert_text.specs.declared.version.TextVersion.TheVariants as versi
 use Rattle.xg_outcome.specs.declared.head.Head.{Head}
 use Rattle.xg_cert.specs.declared.cert.BoundsLines.{BoundsLines}
 use Rattle.xg_cert.specs.declared.cert.CertLines.{CertLines}
-use Rattle.xg_cert.specs.declared.read_lines.Asked.{Asked}
 use Rattle.xg_cert.specs.declared.read_lines.ValueLine.{ValueLine}
 use Rattle.def_reply.specs.Reply.{SetReply}
 use Rattle.xg_outcome.specs.Outcome.{head_of}
@@ -49,9 +48,6 @@ version_number versions.One = 1
 version_number versions.Two = 2
 
 -- the parts of lines
-abbrev pub asked_of : Asked → (ℕ × (ℕ × ℕ))
-asked_of a = (a.rounds, (a.every, a.scale))
-
 abbrev pub set_reply_of : ValueLine → SetReply
 set_reply_of line = record { value = line.value; choice = line.choice }
 

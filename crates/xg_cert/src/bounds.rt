@@ -12,6 +12,7 @@ ghost use Rattle.xg_cert.specs.Printed.{bounds_in, plan_in, reply_in};
 ghost use Rattle.xg_cert.specs.Writable.{AreFormBounds, end_in, form_bounds, reply_end_in};
 
 use crate::cert::Cert;
+use crate::read_lines::ValueLine;
 use crate::scales::scale_of;
 use def_reply::TraceLine;
 use def_tree::Player;
@@ -21,7 +22,7 @@ use xg_seq::SeqForm;
 
 /// What the lines from the trace to the bracket are written from.
 ///
-/// A set's numbers, value and choice are asked by the set's number, which counts from 1.
+/// A set's numbers and its reply are asked by the set's number, which counts from 1.
 pub(crate) trait Bounds {
     // what the lines say, and what holds where they can be written
     ghost printed: { Self → PrintedBounds };
@@ -52,25 +53,19 @@ pub(crate) trait Bounds {
         requires { can_write self.now }
         ensures { result ≡ (reply_in player (printed self.now)).total };
 
-    fn value(&self, player: Player, set: u32) -> i128
+    fn set_reply(&self, player: Player, set: u32) -> ValueLine
         requires can { can_write self.now }
         requires from_one { 1 ≤ set }
         requires there { set ≤ length (reply_in player (printed self.now)).sets }
-        ensures { slice_get (values_of (reply_in player (printed self.now)).sets) (set - 1) ≡ Some result };
+        ensures value { slice_get (values_of (reply_in player (printed self.now)).sets) (set - 1) ≡ Some result.value }
+        ensures choice { slice_get (choices_of (reply_in player (printed self.now)).sets) (set - 1)
+            ≡ Some result.choice };
 
-    fn choice(&self, player: Player, set: u32) -> u32
-        requires can { can_write self.now }
-        requires from_one { 1 ≤ set }
-        requires there { set ≤ length (reply_in player (printed self.now)).sets }
-        ensures { slice_get (choices_of (reply_in player (printed self.now)).sets) (set - 1) ≡ Some result };
-
-    fn low(&self) -> Ratio
+    /// The ends of the bracket, the lower first.
+    fn bracket(&self) -> (Ratio, Ratio)
         requires { can_write self.now }
-        ensures { result ≡ (printed self.now).low };
-
-    fn high(&self) -> Ratio
-        requires { can_write self.now }
-        ensures { result ≡ (printed self.now).high };
+        ensures low { result.0 ≡ (printed self.now).low }
+        ensures high { result.1 ≡ (printed self.now).high };
 }
 
 impl Bounds for Cert {
@@ -99,22 +94,16 @@ impl Bounds for Cert {
         Cert::total(self, player)
     }
 
-    fn value(&self, player: Player, set: u32) -> i128 {
+    fn set_reply(&self, player: Player, set: u32) -> ValueLine {
         let _count = Cert::set_count(self, player);
-        Cert::value(self, player, set)
+        ValueLine {
+            value: Cert::value(self, player, set),
+            choice: Cert::choice(self, player, set),
+        }
     }
 
-    fn choice(&self, player: Player, set: u32) -> u32 {
-        let _count = Cert::set_count(self, player);
-        Cert::choice(self, player, set)
-    }
-
-    fn low(&self) -> Ratio {
-        Cert::low(self)
-    }
-
-    fn high(&self) -> Ratio {
-        Cert::high(self)
+    fn bracket(&self) -> (Ratio, Ratio) {
+        (Cert::low(self), Cert::high(self))
     }
 }
 
@@ -177,20 +166,16 @@ impl<'a> Bounds for FormBounds<'a> {
         self.reply_end(player).reply.total()
     }
 
-    fn value(&self, player: Player, set: u32) -> i128 {
-        self.reply_end(player).reply.value(set)
+    fn set_reply(&self, player: Player, set: u32) -> ValueLine {
+        let reply = &self.reply_end(player).reply;
+        ValueLine {
+            value: reply.value(set),
+            choice: reply.choice(set),
+        }
     }
 
-    fn choice(&self, player: Player, set: u32) -> u32 {
-        self.reply_end(player).reply.choice(set)
-    }
-
-    fn low(&self) -> Ratio {
-        bound(self.unit, self.lower)
-    }
-
-    fn high(&self) -> Ratio {
-        bound(self.unit, self.upper)
+    fn bracket(&self) -> (Ratio, Ratio) {
+        (bound(self.unit, self.lower), bound(self.unit, self.upper))
     }
 }
 

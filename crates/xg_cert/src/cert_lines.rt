@@ -4,18 +4,16 @@ ghost use Rattle.def_fraction.specs.Text.{fraction_text};
 ghost use Rattle.def_outside.specs.Cause.{HasCause};
 ghost use Rattle.def_cert_text.specs.Fields.{space, feed, fixed_word, number, field, separator, items_text};
 ghost use Rattle.def_cert_text.specs.Formats.{text_of};
-ghost use Rattle.def_cert_text.specs.CertText.{asked_text, last_text, line_of_round, value_line};
-ghost use Rattle.xg_outcome.specs.Outcome.{head_of};
+ghost use Rattle.def_cert_text.specs.CertText.{last_text, line_of_round, value_line};
+ghost use Rattle.xg_cert.specs.ReadCert.{set_reply_of};
 ghost use Rattle.xg_cert.specs.Writable.{opening_line};
 ghost use Rattle.def_outside.specs.Sinks.{Writes};
 
-use crate::fields::{put_signed, put_whole};
 use crate::items::{Item, put_items};
-use crate::lines::put_named;
+use crate::read_lines::ValueLine;
 use def_reply::TraceLine;
 use xg_frac::Ratio;
 use xg_io::{Sink, WriteFault, write_all};
-use xg_outcome::Head;
 
 /// What the first line says of the lines below.
 #[derive(Clone, Copy)]
@@ -44,22 +42,6 @@ pub(crate) fn put_last_line<O: Sink>(out: &mut O) -> Result<(), WriteFault>
     write_all(out, b"end\n")
 }
 
-/// What was asked.
-pub(crate) fn put_asked<O: Sink>(head: &Head, out: &mut O) -> Result<(), WriteFault>
-    ensures text { Writes (O.written out.old) (O.written out.new) (asked_text (head_of head.now)) result }
-    ensures cause { HasCause (O.faults out.old) (O.faults out.new) result }
-{
-    let items = [
-        Item::Word(b"rounds"),
-        Item::Whole(head.rounds as u64, b' '),
-        Item::Word(b"every"),
-        Item::Whole(head.every as u64, b' '),
-        Item::Word(b"scale"),
-        Item::Whole(head.scale as u64, b'\n'),
-    ];
-    put_items(&items, out)
-}
-
 pub(crate) fn put_trace_line<O: Sink>(row: &TraceLine, out: &mut O) -> Result<(), WriteFault>
     ensures text { Writes (O.written out.old) (O.written out.new) (text_of (line_of_round 1) row.now) result }
     ensures cause { HasCause (O.faults out.old) (O.faults out.new) result }
@@ -77,17 +59,19 @@ pub(crate) fn put_trace_line<O: Sink>(row: &TraceLine, out: &mut O) -> Result<()
 
 pub(crate) fn put_value_line<O: Sink>(
     set: u32,
-    value: i128,
-    choice: u32,
+    line: ValueLine,
     out: &mut O,
 ) -> Result<(), WriteFault>
-    ensures text { Writes (O.written out.old) (O.written out.new)
-        (text_of (value_line set) (record { value = value; choice = choice })) result }
+    ensures text { Writes (O.written out.old) (O.written out.new) (text_of (value_line set) (set_reply_of line)) result }
     ensures cause { HasCause (O.faults out.old) (O.faults out.new) result }
 {
-    put_named(b"value", set as u64, b' ', out)?;
-    put_signed(value, b' ', out)?;
-    put_whole(choice as u64, b'\n', out)
+    let items = [
+        Item::Word(b"value"),
+        Item::Whole(set as u64, b' '),
+        Item::Signed(line.value, b' '),
+        Item::Whole(line.choice as u64, b'\n'),
+    ];
+    put_items(&items, out)
 }
 
 /// Writes a line of a word and both ends of a bracket. After an error a front of it was written.

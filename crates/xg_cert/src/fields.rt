@@ -1,6 +1,6 @@
 //! A field of the text, and its separator.
 ghost use Rattle.std.specs.Prelude.{◌<◌};
-ghost use Rattle.std.specs.Fmt.{decimal, signed_decimal};
+ghost use Rattle.std.specs.Fmt.{decimal};
 ghost use Rattle.def_outside.specs.Cause.{HasCause};
 ghost use Rattle.def_fraction.specs.Text.{fraction_text};
 ghost use Rattle.def_outside.specs.Sinks.{Writes};
@@ -33,15 +33,6 @@ pub(crate) fn put_field<O: Sink>(field: &[u8], separator: u8, out: &mut O) -> Re
 /// A whole number.
 pub(crate) fn put_whole<O: Sink>(n: u64, separator: u8, out: &mut O) -> Result<(), WriteFault>
     ensures text { Writes (O.written out.old) (O.written out.new) (field_text (decimal n) separator) result }
-    ensures cause { HasCause (O.faults out.old) (O.faults out.new) result }
-{
-    let mut buffer = Buffer::new();
-    put_field(buffer.format(n).as_bytes(), separator, out)
-}
-
-/// A whole number with a sign where it is negative.
-pub(crate) fn put_signed<O: Sink>(n: i128, separator: u8, out: &mut O) -> Result<(), WriteFault>
-    ensures text { Writes (O.written out.old) (O.written out.new) (field_text (signed_decimal n) separator) result }
     ensures cause { HasCause (O.faults out.old) (O.faults out.new) result }
 {
     let mut buffer = Buffer::new();

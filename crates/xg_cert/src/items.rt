@@ -5,7 +5,8 @@ ghost use Rattle.def_cert_text.specs.Fields.{items_text};
 ghost use Rattle.xg_cert.specs.Items.{field_bytes, items_of, separator_of};
 ghost use Rattle.xg_cert.specs.Writes.{field_text};
 
-use crate::fields::{put_field, put_fraction, put_signed, put_whole};
+use crate::fields::{put_field, put_fraction, put_whole};
+use itoa::Buffer;
 use xg_frac::Ratio;
 use xg_io::{Sink, WriteFault};
 
@@ -41,7 +42,10 @@ fn put_item<O: Sink>(item: &Item<'_>, out: &mut O) -> Result<(), WriteFault>
     match *item {
         Item::Word(word) => put_field(word, b' ', out),
         Item::Whole(n, separator) => put_whole(n, separator, out),
-        Item::Signed(n, separator) => put_signed(n, separator, out),
+        Item::Signed(n, separator) => {
+            let mut buffer = Buffer::new();
+            put_field(buffer.format(n).as_bytes(), separator, out)
+        }
         Item::Fraction(fraction, separator) => put_fraction(fraction, separator, out),
     }
 }

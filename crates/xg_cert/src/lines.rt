@@ -3,14 +3,11 @@ ghost use Rattle.std.specs.Prelude.{◌≡◌, OnOk, OnErr};
 ghost use Rattle.std.specs.Io.KnownBytes.{append_known};
 ghost use Rattle.def_outside.specs.Cause.{HasCause};
 ghost use Rattle.def_outside.specs.Sinks.{AppendsPrefix, Writes};
-ghost use Rattle.def_cert_text.specs.Fields.{number, field, separator};
-ghost use Rattle.def_cert_text.specs.CertText.{head_text, head_text_of, sum_line, unit_line};
+ghost use Rattle.def_cert_text.specs.CertText.{head_text};
 ghost use Rattle.xg_outcome.specs.Outcome.{head_of};
-ghost use Rattle.xg_cert.specs.Writes.{counts_text, named_text, units_text};
+ghost use Rattle.xg_cert.specs.Writes.{counts_text};
 
-use crate::fields::{put_field, put_whole};
 use crate::items::{Item, put_items};
-use def_cert_text::TextVersion;
 use xg_frac::{Frac, Ratio, ratio};
 use xg_io::{Sink, WriteFault};
 use xg_outcome::Head;
@@ -24,23 +21,29 @@ pub fn write_head<O: Sink>(head: &Head, out: &mut O) -> Result<(), WriteFault>
         (head_text (head_of head.now))) }
     ensures cause { HasCause (O.faults out.old) (O.faults out.new) result }
 {
-    put_head(TextVersion::One, head, out)
+    put_head(head, out)
 }
 
-/// The lines of the game's numbers.
-pub(crate) fn put_head<O: Sink>(
-    version: TextVersion,
-    head: &Head,
-    out: &mut O,
-) -> Result<(), WriteFault>
-    ensures text { Writes (O.written out.old) (O.written out.new) (head_text_of version (head_of head.now)) result }
+/// The lines of the game's numbers in version 1, which has the sum behind the unit, and only where it isn't 0.
+fn put_head<O: Sink>(head: &Head, out: &mut O) -> Result<(), WriteFault>
+    ensures text { Writes (O.written out.old) (O.written out.new) (head_text (head_of head.now)) result }
     ensures cause { HasCause (O.faults out.old) (O.faults out.new) result }
 {
+    let (unit, mass) = (Item::Word(b"unit"), Item::Word(b"mass"));
+    let mass_line = Item::Whole(head.mass, b'\n');
     put_counts(head, out)?;
-    put_units(version, head, out)
+    if head.sum.is_zero() {
+        let unit_line = Item::Whole(head.unit, b'\n');
+        return put_items(&[unit, unit_line, mass, mass_line], out);
+    }
+    let unit_before = Item::Whole(head.unit, b' ');
+    let sum_line = Item::Fraction(wide(head.sum), b'\n');
+    let sum = Item::Word(b"sum");
+    put_items(&[unit, unit_before, sum, sum_line, mass, mass_line], out)
 }
 
-fn put_counts<O: Sink>(head: &Head, out: &mut O) -> Result<(), WriteFault>
+/// The lines of the counts.
+pub(crate) fn put_counts<O: Sink>(head: &Head, out: &mut O) -> Result<(), WriteFault>
     ensures text { Writes (O.written out.old) (O.written out.new) (counts_text (head_of head.now)) result }
     ensures cause { HasCause (O.faults out.old) (O.faults out.new) result }
 {
@@ -59,45 +62,9 @@ fn put_counts<O: Sink>(head: &Head, out: &mut O) -> Result<(), WriteFault>
     put_items(&items, out)
 }
 
-/// The unit, the mass and the sum, which version 1 has behind the unit, and only where it isn't 0.
-fn put_units<O: Sink>(version: TextVersion, head: &Head, out: &mut O) -> Result<(), WriteFault>
-    ensures text { Writes (O.written out.old) (O.written out.new) (units_text version (head_of head.now)) result }
-    ensures cause { HasCause (O.faults out.old) (O.faults out.new) result }
-{
-    let (unit, mass, sum) = (Item::Word(b"unit"), Item::Word(b"mass"), Item::Word(b"sum"));
-    let unit_line = Item::Whole(head.unit, b'\n');
-    let mass_line = Item::Whole(head.mass, b'\n');
-    let sum_line = Item::Fraction(wide(head.sum), b'\n');
-    match version {
-        TextVersion::One => {
-            if head.sum.is_zero() {
-                return put_items(&[unit, unit_line, mass, mass_line], out);
-            }
-            let unit_before = Item::Whole(head.unit, b' ');
-            put_items(&[unit, unit_before, sum, sum_line, mass, mass_line], out)
-        }
-        TextVersion::Two => put_items(&[unit, unit_line, mass, mass_line, sum, sum_line], out),
-    }
-}
-
 /// The same fraction, as one whose parts may be larger.
 pub(crate) fn wide(f: Frac) -> Ratio
     ensures { result ≡ f }
 {
     ratio(f.num(), f.den())
-}
-
-/// A word and a number.
-#[tactic(auto, using(crate::proofs::Written::first_field, crate::proofs::Written::then_field, crate::proofs::Written::last_field))]
-pub(crate) fn put_named<O: Sink>(
-    word: &[u8],
-    n: u64,
-    separator: u8,
-    out: &mut O,
-) -> Result<(), WriteFault>
-    ensures text { Writes (O.written out.old) (O.written out.new) (named_text word.now n separator) result }
-    ensures cause { HasCause (O.faults out.old) (O.faults out.new) result }
-{
-    put_field(word, b' ', out)?;
-    put_whole(n, separator, out)
 }

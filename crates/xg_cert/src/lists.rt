@@ -10,7 +10,7 @@ ghost use Rattle.xg_cert.specs.Printed.{plan_in, reply_in};
 use crate::bounds::Bounds;
 use crate::cert_lines::{put_trace_line, put_value_line};
 use crate::fields::put_whole;
-use crate::lines::put_named;
+use crate::items::{Item, put_items};
 use def_reply::TraceLine;
 use def_tree::Player;
 use xg_io::{Sink, WriteFault};
@@ -62,7 +62,8 @@ fn put_weights_line<O: Sink>(set: u32, numbers: &[u64], out: &mut O) -> Result<(
     ensures text { Writes (O.written out.old) (O.written out.new) (text_of (weights_line set) numbers.now) result }
     ensures cause { HasCause (O.faults out.old) (O.faults out.new) result }
 {
-    put_named(b"weights", set as u64, b' ', out)?;
+    let start = [Item::Word(b"weights"), Item::Whole(set as u64, b' ')];
+    put_items(&start, out)?;
     put_numbers(numbers, out)
 }
 
@@ -78,12 +79,7 @@ pub(crate) fn put_values<B: Bounds, O: Sink>(
     ensures cause { HasCause (O.faults out.old) (O.faults out.new) result }
 {
     'sets: for i in 0..bounds.set_count(player) {
-        put_value_line(
-            i + 1,
-            bounds.value(player, i + 1),
-            bounds.choice(player, i + 1),
-            out,
-        )?;
+        put_value_line(i + 1, bounds.set_reply(player, i + 1), out)?;
     }
     Ok(())
 }

@@ -5,12 +5,12 @@ ghost use Rattle.def_sums.specs.Limits.{most_rounds};
 ghost use Rattle.def_tree.specs.Rules.{most_nodes};
 ghost use Rattle.def_cert_text.specs.Fields.{space, feed, number};
 ghost use Rattle.def_cert_text.specs.Formats.{and_then, fixed_field, fraction_field, whole_field};
-ghost use Rattle.def_cert_text.specs.CertText.{after_word, size_line, unit_line, mass_line, payoff_lines, asked_line};
+ghost use Rattle.def_cert_text.specs.CertText.{after_word, unit_line, payoff_lines};
 ghost use Rattle.def_cert_text.specs.CertText.{head_lines_of, line_of_round, value_line};
 ghost use Rattle.def_cert_verdict.specs.Ranges.{most_printed};
 ghost use Rattle.xg_cert_fields.specs.Reading.{GivesValue};
 ghost use Rattle.xg_outcome.specs.Outcome.{head_of};
-ghost use Rattle.xg_cert.specs.ReadCert.{set_reply_of, asked_of};
+ghost use Rattle.xg_cert.specs.ReadCert.{set_reply_of};
 
 use def_cert_text::{CertFault, TextVersion};
 use def_reply::TraceLine;
@@ -21,30 +21,11 @@ use xg_frac::{Frac, MOST_PART, Ratio, zero};
 use xg_outcome::Head;
 use xg_tree::{MOST_ACTIONS, MOST_NODES};
 
-/// What was asked of a run.
-#[derive(Clone, Copy)]
-pub(crate) struct Asked {
-    pub(crate) rounds: u32,
-    pub(crate) every: u32,
-    pub(crate) scale: u32,
-}
-
 /// A value and a choice.
 #[derive(Clone, Copy)]
 pub(crate) struct ValueLine {
     pub(crate) value: i128,
     pub(crate) choice: u32,
-}
-
-fn size_line(reader: &mut FieldReader<'_>) -> Result<(u32, u32), CertFault>
-    ensures exact { GivesValue (λ p. p) result reader.new.left (size_line.read reader.old.total reader.old.left) }
-    ensures total { reader.new.total ≡ reader.old.total }
-{
-    reader.word(b"nodes", b' ')?;
-    let nodes = reader.whole(1, MOST_NODES as u64, b' ')? as u32;
-    reader.word(b"leaves", b' ')?;
-    let leaves = reader.whole(1, MOST_NODES as u64, b'\n')? as u32;
-    Ok((nodes, leaves))
 }
 
 /// A word, and a number of each player.
@@ -55,8 +36,7 @@ fn pair_line(reader: &mut FieldReader<'_>, word: &[u8], low: u64) -> Result<(u32
     ensures total { reader.new.total ≡ reader.old.total }
     ensures range { IfOk result (λ p. (p.0 ≤ most_nodes) × (p.1 ≤ most_nodes)) }
 {
-    reader.word(word, b' ')?;
-    let one = reader.whole(low, MOST_NODES as u64, b' ')? as u32;
+    let one = reader.named(word, low, MOST_NODES as u64, b' ')? as u32;
     let two = reader.whole(low, MOST_NODES as u64, b'\n')? as u32;
     Ok((one, two))
 }
@@ -76,14 +56,6 @@ fn unit_line(reader: &mut FieldReader<'_>) -> Result<(u64, Frac), CertFault>
     Ok((unit.number, sum))
 }
 
-fn mass_line(reader: &mut FieldReader<'_>) -> Result<u64, CertFault>
-    ensures exact { GivesValue (λ n. n) result reader.new.left (mass_line.read reader.old.total reader.old.left) }
-    ensures total { reader.new.total ≡ reader.old.total }
-{
-    reader.word(b"mass", b' ')?;
-    reader.whole(0, MOST_MASS, b'\n')
-}
-
 /// The unit with the sum, and the mass. In version 2 the sum has a line of its own.
 fn payoff_lines(
     reader: &mut FieldReader<'_>,
@@ -96,37 +68,17 @@ fn payoff_lines(
     match version {
         TextVersion::One => {
             let unit = unit_line(reader)?;
-            let mass = mass_line(reader)?;
+            let mass = reader.named(b"mass", 0, MOST_MASS, b'\n')?;
             Ok((unit, mass))
         }
         TextVersion::Two => {
-            reader.word(b"unit", b' ')?;
-            let unit = reader.whole(1, MOST_PART as u64, b'\n')?;
-            let mass = mass_line(reader)?;
+            let unit = reader.named(b"unit", 1, MOST_PART as u64, b'\n')?;
+            let mass = reader.named(b"mass", 0, MOST_MASS, b'\n')?;
             reader.word(b"sum", b' ')?;
             let sum = reader.small(b'\n')?;
             Ok(((unit, sum), mass))
         }
     }
-}
-
-fn asked_line(reader: &mut FieldReader<'_>) -> Result<Asked, CertFault>
-    ensures exact { GivesValue asked_of result reader.new.left (asked_line.read reader.old.total reader.old.left) }
-    ensures total { reader.new.total ≡ reader.old.total }
-    ensures rounds { IfOk result (λ a. a.rounds ≤ most_rounds) }
-    ensures every { IfOk result (λ a. (1 ≤ a.every) × (a.every ≤ most_rounds)) }
-{
-    reader.word(b"rounds", b' ')?;
-    let rounds = reader.whole(0, MOST_ROUNDS as u64, b' ')? as u32;
-    reader.word(b"every", b' ')?;
-    let every = reader.whole(1, MOST_ROUNDS as u64, b' ')? as u32;
-    reader.word(b"scale", b' ')?;
-    let scale = reader.whole(1, MOST_SCALE as u64, b'\n')? as u32;
-    Ok(Asked {
-        rounds,
-        every,
-        scale,
-    })
 }
 
 /// The game's numbers, and what was asked.
@@ -141,11 +93,14 @@ pub(crate) fn head_lines(
     ensures rounds { IfOk result (λ head. head.rounds ≤ most_rounds) }
     ensures every { IfOk result (λ head. (1 ≤ head.every) × (head.every ≤ most_rounds)) }
 {
-    let (nodes, leaves) = size_line(reader)?;
+    let nodes = reader.named(b"nodes", 1, MOST_NODES as u64, b' ')? as u32;
+    let leaves = reader.named(b"leaves", 1, MOST_NODES as u64, b'\n')? as u32;
     let sets = pair_line(reader, b"sets", 0)?;
     let sequences = pair_line(reader, b"sequences", 1)?;
     let ((unit, sum), mass) = payoff_lines(reader, version)?;
-    let asked = asked_line(reader)?;
+    let rounds = reader.named(b"rounds", 0, MOST_ROUNDS as u64, b' ')? as u32;
+    let every = reader.named(b"every", 1, MOST_ROUNDS as u64, b' ')? as u32;
+    let scale = reader.named(b"scale", 1, MOST_SCALE as u64, b'\n')? as u32;
     Ok(Head {
         nodes,
         leaves,
@@ -154,9 +109,9 @@ pub(crate) fn head_lines(
         unit,
         sum,
         mass,
-        rounds: asked.rounds,
-        every: asked.every,
-        scale: asked.scale,
+        rounds,
+        every,
+        scale,
     })
 }
 
@@ -167,8 +122,7 @@ pub(crate) fn trace_line(reader: &mut FieldReader<'_>, round: u32) -> Result<Tra
     ensures total { reader.new.total ≡ reader.old.total }
 {
     let latest = round as u64;
-    reader.word(b"trace", b' ')?;
-    reader.whole(latest, latest, b' ')?;
+    reader.named(b"trace", latest, latest, b' ')?;
     let low_round = reader.whole(1, latest, b' ')? as u32;
     let low = reader.integer(b' ')?;
     let high_round = reader.whole(1, latest, b' ')? as u32;
@@ -182,13 +136,18 @@ pub(crate) fn trace_line(reader: &mut FieldReader<'_>, round: u32) -> Result<Tra
     })
 }
 
-/// The number of a set, which is known.
-pub(crate) fn set_number(reader: &mut FieldReader<'_>, set: u32) -> Result<(), CertFault>
+/// A word, and the number of a set, which is known.
+pub(crate) fn set_named(
+    reader: &mut FieldReader<'_>,
+    word: &[u8],
+    set: u32,
+) -> Result<(), CertFault>
     ensures exact { GivesValue (λ _. tt) result reader.new.left
-        ((fixed_field number (decimal set) space).read reader.old.total reader.old.left) }
+        ((after_word word.now (fixed_field number (decimal set) space)).read reader.old.total reader.old.left) }
     ensures total { reader.new.total ≡ reader.old.total }
 {
     let mut buffer = Buffer::new();
+    reader.word(word, b' ')?;
     reader.known_number(buffer.format(set).as_bytes(), b' ')
 }
 
@@ -198,8 +157,7 @@ pub(crate) fn value_line(reader: &mut FieldReader<'_>, set: u32) -> Result<Value
         ((value_line set).read reader.old.total reader.old.left) }
     ensures total { reader.new.total ≡ reader.old.total }
 {
-    reader.word(b"value", b' ')?;
-    set_number(reader, set)?;
+    set_named(reader, b"value", set)?;
     let value = reader.integer(b' ')?;
     let choice = reader.whole(1, MOST_ACTIONS as u64, b'\n')? as u32;
     Ok(ValueLine { value, choice })

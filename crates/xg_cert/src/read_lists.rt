@@ -10,7 +10,7 @@ ghost use Rattle.xg_outcome.specs.Outcome.{head_of};
 ghost use Rattle.xg_cert.specs.Answers.{Extends, GivesValueFor};
 
 use crate::printed::{PlanLines, ReplyLines};
-use crate::read_lines::{set_number, trace_line, value_line};
+use crate::read_lines::{set_named, trace_line, value_line};
 use crate::refused::CertRefused;
 use def_cert_text::CertFault;
 use def_reply::TraceLine;
@@ -41,23 +41,6 @@ fn round_of_evaluation(head: &Head, k: u32) -> u32
     round.min(head.rounds as u64) as u32
 }
 
-/// The line of an evaluation, which counts from 1.
-fn line_of_evaluation(
-    reader: &mut FieldReader<'_>,
-    head: &Head,
-    k: u32,
-) -> Result<TraceLine, CertFault>
-    requires k { k ≤ most_rounds + most_rounds }
-    requires rounds { head.now.rounds ≤ most_rounds }
-    requires every { head.now.every ≤ most_rounds }
-    ensures exact { GivesValue (λ line. line) result reader.new.left
-        ((line_of_round (round_of_evaluation (head_of head.now) k)).read reader.old.total reader.old.left) }
-    ensures total { reader.new.total ≡ reader.old.total }
-{
-    let round = round_of_evaluation(head, k);
-    trace_line(reader, round)
-}
-
 /// A line for each evaluation.
 pub(crate) fn trace_lines(
     reader: &mut FieldReader<'_>,
@@ -73,7 +56,7 @@ pub(crate) fn trace_lines(
     let count = evaluation_count(head);
     let mut rows = Vec::new(alloc);
     'rows: for i in 0..count {
-        let row = line_of_evaluation(reader, head, i + 1)?;
+        let row = trace_line(reader, round_of_evaluation(head, i + 1))?;
         rows.push(row)?;
     }
     Ok(rows)
@@ -106,8 +89,7 @@ fn weights_line(
         ((weights_line set).read reader.old.total reader.old.left) }
     ensures total { reader.new.total ≡ reader.old.total }
 {
-    reader.word(b"weights", b' ')?;
-    set_number(reader, set)?;
+    set_named(reader, b"weights", set)?;
     row(reader, numbers)
 }
 

@@ -4,14 +4,13 @@ ghost use Rattle.def_tree.specs.Rules.{most_nodes};
 ghost use Rattle.def_cert_text.specs.Versions.{VersionedCertificate, VersionedFits};
 ghost use Rattle.def_cert_text.specs.declared.fault.CertFault as fault;
 ghost use Rattle.def_cert_text.specs.CertText.{bounds_lines, last_lines, plan_lines, reply_lines};
-ghost use Rattle.def_cert_text.specs.CertText.{versioned_certificate, versioned_in, versioned_text};
+ghost use Rattle.def_cert_text.specs.CertText.{versioned_in, versioned_text};
 ghost use Rattle.def_cert_text.specs.FirstFault.{FirstVersionedFault};
 ghost use Rattle.xg_cert.specs.declared.refused.CertRefused.TheVariants as refused;
-ghost use Rattle.xg_cert.specs.Answers.{AnswersCertificate, AnswersAs, GivesValueFor};
+ghost use Rattle.xg_cert.specs.Answers.{AnswersCertificate, Gives, GivesValueFor, text_read};
 ghost use Rattle.xg_outcome.specs.Outcome.{head_of};
-ghost use Rattle.xg_cert.specs.ReadCert.{IsReadHead, bounds_of, certificate_read};
+ghost use Rattle.xg_cert.specs.ReadCert.{IsReadHead, bounds_of};
 ghost use Rattle.xg_cert.specs.ReadCert.{second_where_given};
-ghost use Rattle.xg_cert_fields.specs.Reading.{GivesValue};
 
 use crate::cert::{BoundsLines, Cert, CertLines};
 use crate::printed::{PlanLines, ReplyLines};
@@ -45,43 +44,27 @@ pub fn read_cert(alloc: Global, bytes: &[u8]) -> Result<Cert, CertRefused>
 }
 
 /// The same, by what reading gives.
+#[tactic(auto, unfolding(def_cert_text::specs::CertText::versioned_in))]
 fn read_text(alloc: Global, bytes: &[u8]) -> Result<Cert, CertRefused>
     ensures { AnswersCertificate result (versioned_in bytes.now) }
 {
-    let lines = read_lines(alloc, bytes)?;
-    Ok(Cert { lines })
-}
-
-#[tactic(auto, unfolding(def_cert_text::specs::CertText::versioned_in))]
-fn read_lines(alloc: Global, bytes: &[u8]) -> Result<CertLines, CertRefused>
-    ensures { AnswersAs certificate_read result (versioned_in bytes.now) }
-{
     let mut reader = FieldReader::new(bytes);
-    let lines = whole_certificate(&mut reader, alloc)?;
-    reader.end()?;
-    Ok(lines)
-}
-
-/// All lines up to the last.
-fn whole_certificate(reader: &mut FieldReader<'_>, alloc: Global) -> Result<CertLines, CertRefused>
-    ensures exact { GivesValueFor certificate_read result reader.new.left
-        (versioned_certificate.read reader.old.total reader.old.left) }
-    ensures total { reader.new.total ≡ reader.old.total }
-{
     reader.word(b"XGCERT", b' ')?;
     let version = reader.version()?;
-    let head = head_lines(reader, version)?;
+    let head = head_lines(&mut reader, version)?;
     let bounds = if head.rounds == 0 {
         None
     } else {
-        Some(bounds_lines(reader, alloc, &head)?)
+        Some(bounds_lines(&mut reader, alloc, &head)?)
     };
-    match last_lines(reader, version, &head) {
-        Ok(second) => Ok(CertLines {
-            version,
-            head,
-            bounds,
-            second,
+    match last_lines(&mut reader, version, &head) {
+        Ok(second) => Ok(Cert {
+            lines: CertLines {
+                version,
+                head,
+                bounds,
+                second,
+            },
         }),
         Err(fault) => {
             drop(bounds);
@@ -90,15 +73,14 @@ fn whole_certificate(reader: &mut FieldReader<'_>, alloc: Global) -> Result<Cert
     }
 }
 
-/// All below the bracket: that of player two's own payoff, where it is there, and the last line.
+/// All below the bracket: that of player two's own payoff, where it is there, and the last line, which ends the text.
 fn last_lines(
     reader: &mut FieldReader<'_>,
     version: TextVersion,
     head: &Head,
 ) -> Result<Option<(Ratio, Ratio)>, CertFault>
-    ensures exact { GivesValue (λ second. (second_where_given second, tt)) result reader.new.left
-        ((last_lines version (head_of head.now)).read reader.old.total reader.old.left) }
-    ensures total { reader.new.total ≡ reader.old.total }
+    ensures { Gives (λ second. (second_where_given second, tt)) result
+        (text_read (last_lines version (head_of head.now)) reader.old.total reader.old.left) }
 {
     let second = if version == TextVersion::One || head.rounds == 0 {
         None
@@ -106,6 +88,7 @@ fn last_lines(
         Some(ends_line(reader, b"second")?)
     };
     reader.word(b"end", b'\n')?;
+    reader.end()?;
     Ok(second)
 }
 
@@ -150,8 +133,7 @@ fn plan_lines(
     ensures total { reader.new.total ≡ reader.old.total }
 {
     reader.word(b"plan", b' ')?;
-    reader.word(digit, b' ')?;
-    let root = reader.whole(1, MOST_ROOT, b'\n')?;
+    let root = reader.named(digit, 1, MOST_ROOT, b'\n')?;
     weights_lines(reader, alloc, root, sets)
 }
 

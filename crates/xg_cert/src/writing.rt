@@ -5,73 +5,35 @@ ghost use Rattle.std.specs.Option.{option_map};
 ghost use Rattle.def_outside.specs.Cause.{HasCause};
 ghost use Rattle.def_outside.specs.Sinks.{AppendsPrefix, Writes};
 ghost use Rattle.def_cert_accepted.specs.OfOutcome.{certificate_of};
-ghost use Rattle.def_cert_text.specs.CertText.{second_text, versioned_text};
+ghost use Rattle.def_cert_text.specs.CertText.{versioned_text};
 ghost use Rattle.def_cert_text.specs.PlusText.{plus_text};
 ghost use Rattle.def_cert_versions.specs.Upgrade.{IsUpgradable};
-ghost use Rattle.def_cert_versions.specs.Verdict.{in_version_two, second_bracket, upgraded};
+ghost use Rattle.def_cert_versions.specs.Verdict.{in_version_two, upgraded};
 ghost use Rattle.xg_outcome.specs.Outcome.{head_of};
 ghost use Rattle.xg_cert.specs.Printed.{plan_in, reply_in};
 ghost use Rattle.def_cert_accepted.specs.Writable.{IsOutcomeOf};
 ghost use Rattle.xg_cert.specs.Writable.{LeavesSecond, above_text, below_text};
-ghost use Rattle.xg_cert.specs.Writable.{end_text, ends_text, plan_text, reply_text, text_under};
+ghost use Rattle.xg_cert.specs.Writable.{end_text, text_under};
 
 use crate::bounds::{Bounds, FormBounds};
 use crate::cert::Cert;
-use crate::cert_lines::{FirstLine, put_asked, put_ends_line, put_first_line, put_last_line};
+use crate::cert_lines::{FirstLine, put_ends_line, put_first_line, put_last_line};
 use crate::items::{Item, put_items};
-use crate::lines::put_head;
+use crate::lines::{put_counts, wide};
 use crate::lists::{put_trace, put_values, put_weights};
 use crate::second::second_end;
-use def_cert_text::TextVersion;
 use def_tree::Player;
 use xg_io::{Sink, WriteFault};
 use xg_outcome::{Head, Outcome};
 use xg_seq::SeqForm;
 
-/// A plan of the player that the digit names.
-#[tactic(auto, using(crate::proofs::Written::items_first, crate::proofs::Written::then_items))]
-fn put_plan<B: Bounds, O: Sink>(
-    bounds: &B,
-    player: Player,
-    digit: &[u8],
-    out: &mut O,
-) -> Result<(), WriteFault>
-    requires { B.can_write bounds.now }
-    ensures text { Writes (O.written out.old) (O.written out.new)
-        (plan_text digit.now (plan_in player (B.printed bounds.now))) result }
-    ensures cause { HasCause (O.faults out.old) (O.faults out.new) result }
-{
-    let root = Item::Whole(bounds.root(player), b'\n');
-    put_items(&[Item::Word(b"plan"), Item::Word(digit), root], out)?;
-    put_weights(bounds, player, out)
-}
-
-/// A reply of the player that the digit names.
-#[tactic(auto, using(crate::proofs::Written::items_first, crate::proofs::Written::then_items))]
-fn put_reply<B: Bounds, O: Sink>(
-    bounds: &B,
-    player: Player,
-    digit: &[u8],
-    out: &mut O,
-) -> Result<(), WriteFault>
-    requires { B.can_write bounds.now }
-    ensures text { Writes (O.written out.old) (O.written out.new)
-        (reply_text digit.now (reply_in player (B.printed bounds.now))) result }
-    ensures cause { HasCause (O.faults out.old) (O.faults out.new) result }
-{
-    let total = Item::Signed(bounds.total(player), b'\n');
-    put_items(&[Item::Word(b"reply"), Item::Word(digit), total], out)?;
-    put_values(bounds, player, out)
-}
-
 /// A plan of the player that the first digit names, and the reply of the other player.
-#[tactic(auto, using(xg_io::proofs::Pieces::prefix_first, xg_io::proofs::Pieces::then_rest))]
-fn put_end<B: Bounds, O: Sink>(
+fn put_end<'a, B: Bounds, O: Sink>(
     bounds: &B,
     player: Player,
     other: Player,
-    digit: &[u8],
-    reply_digit: &[u8],
+    digit: &'a [u8],
+    reply_digit: &'a [u8],
     out: &mut O,
 ) -> Result<(), WriteFault>
     requires { B.can_write bounds.now }
@@ -80,37 +42,16 @@ fn put_end<B: Bounds, O: Sink>(
         (reply_in other (B.printed bounds.now))) result }
     ensures cause { HasCause (O.faults out.old) (O.faults out.new) result }
 {
-    put_plan(bounds, player, digit, out)?;
-    put_reply(bounds, other, reply_digit, out)
+    let root = Item::Whole(bounds.root(player), b'\n');
+    put_items(&[Item::Word(b"plan"), Item::Word(digit), root], out)?;
+    put_weights(bounds, player, out)?;
+    let total = Item::Signed(bounds.total(other), b'\n');
+    put_items(&[Item::Word(b"reply"), Item::Word(reply_digit), total], out)?;
+    put_values(bounds, other, out)
 }
 
-/// The trace, both ends and the bracket.
-fn put_ends<B: Bounds, O: Sink>(bounds: &B, out: &mut O) -> Result<(), WriteFault>
-    requires { B.can_write bounds.now }
-    ensures text { Writes (O.written out.old) (O.written out.new) (ends_text (B.printed bounds.now)) result }
-    ensures cause { HasCause (O.faults out.old) (O.faults out.new) result }
-{
-    put_trace(bounds.trace(), out)?;
-    put_end(bounds, Player::One, Player::Two, b"1", b"2", out)?;
-    put_end(bounds, Player::Two, Player::One, b"2", b"1", out)?;
-    put_ends_line(b"bracket", bounds.low(), bounds.high(), out)
-}
-
-/// The bracket of player two's own payoff: what the sum leaves of both ends, in the other order.
-fn put_second<B: Bounds, O: Sink>(head: &Head, bounds: &B, out: &mut O) -> Result<(), WriteFault>
-    requires can { B.can_write bounds.now }
-    requires leaves { LeavesSecond (head_of head.now) (B.printed bounds.now) }
-    ensures text { Writes (O.written out.old) (O.written out.new)
-        (second_text (second_bracket head.now.sum (B.printed bounds.now))) result }
-    ensures cause { HasCause (O.faults out.old) (O.faults out.new) result }
-{
-    let low = second_end(head.sum, head.unit, bounds.root(Player::Two), bounds.high());
-    let high = second_end(head.sum, head.unit, bounds.root(Player::One), bounds.low());
-    put_ends_line(b"second", low, high, out)
-}
-
-/// All below the head, which is there where a round was asked.
-#[tactic(auto, using(xg_io::proofs::Pieces::prefix_first, xg_io::proofs::Pieces::then_rest))]
+/// All below the head, which is there where a round was asked: the trace, both ends, the bracket, and that of player
+/// two's own payoff, which is what the sum leaves of both ends, in the other order.
 fn put_below<B: Bounds, O: Sink>(
     head: &Head,
     bounds: Option<&B>,
@@ -124,18 +65,38 @@ fn put_below<B: Bounds, O: Sink>(
     let Some(bounds) = bounds else {
         return Ok(());
     };
-    put_ends(bounds, out)?;
-    put_second(head, bounds, out)
+    let (low, high) = bounds.bracket();
+    let second_low = second_end(head.sum, head.unit, bounds.root(Player::Two), high);
+    let second_high = second_end(head.sum, head.unit, bounds.root(Player::One), low);
+    put_trace(bounds.trace(), out)?;
+    put_end(bounds, Player::One, Player::Two, b"1", b"2", out)?;
+    put_end(bounds, Player::Two, Player::One, b"2", b"1", out)?;
+    put_ends_line(b"bracket", low, high, out)?;
+    put_ends_line(b"second", second_low, second_high, out)
 }
 
-#[tactic(auto, using(xg_io::proofs::Pieces::prefix_first, xg_io::proofs::Pieces::then_rest))]
+/// The first line, the game's numbers, and what was asked.
 fn put_above<O: Sink>(first: FirstLine, head: &Head, out: &mut O) -> Result<(), WriteFault>
     ensures text { Writes (O.written out.old) (O.written out.new) (above_text first (head_of head.now)) result }
     ensures cause { HasCause (O.faults out.old) (O.faults out.new) result }
 {
+    let items = [
+        Item::Word(b"unit"),
+        Item::Whole(head.unit, b'\n'),
+        Item::Word(b"mass"),
+        Item::Whole(head.mass, b'\n'),
+        Item::Word(b"sum"),
+        Item::Fraction(wide(head.sum), b'\n'),
+        Item::Word(b"rounds"),
+        Item::Whole(head.rounds as u64, b' '),
+        Item::Word(b"every"),
+        Item::Whole(head.every as u64, b' '),
+        Item::Word(b"scale"),
+        Item::Whole(head.scale as u64, b'\n'),
+    ];
     put_first_line(first, out)?;
-    put_head(TextVersion::Two, head, out)?;
-    put_asked(head, out)
+    put_counts(head, out)?;
+    put_items(&items, out)
 }
 
 fn put_text<B: Bounds, O: Sink>(

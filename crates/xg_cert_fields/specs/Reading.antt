@@ -1,8 +1,8 @@
 -- What a reader gives, beside what reading the bytes gives by definition.
-use Rattle.std.specs.Prelude.{◌≡◌, ℕ, Bool, true, false, List, Option, Result, Ok, Err}
-use Rattle.def_fraction.specs.Fraction.{Fraction, most}
+use Rattle.std.specs.Prelude.{◌≡◌, ℕ, List, Option, Result, Ok, Err, if◌then◌else◌}
 use Rattle.def_cert_text.specs.declared.fault.CertFault.{CertFault}
-use Rattle.def_cert_text.specs.Numbers.{fraction_in, nonzero_in}
+use Rattle.def_cert_text.specs.declared.fault.CertFault.TheVariants.{CertShort}
+use Rattle.def_cert_text.specs.Fields.{if_fit, is_empty}
 
 -- the bytes that are left of a text of so many bytes in all
 pub record Reading : Type 0 where
@@ -14,7 +14,6 @@ abbrev pub GivesValue : {X Y : Type 0} → (X → Y) → Result X CertFault → 
 GivesValue view (Ok x) left read = read ≡ Ok (view x, left)
 GivesValue view (Err fault) left read = read ≡ Err fault
 
--- a fraction with small parts, where 0 may be one or not
-abbrev pub small_in : Bool → List ℕ → Option Fraction
-small_in true = fraction_in most
-small_in false = nonzero_in most
+-- the value of a field and its separator, from what is behind the field
+abbrev pub if_behind : {A : Type 0} → CertFault → ℕ → ℕ → Option A → List ℕ → Result (A × List ℕ) CertFault
+if_behind unfit sep total value behind = if is_empty behind then Err CertShort else if_fit unfit sep total value behind

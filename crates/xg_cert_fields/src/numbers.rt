@@ -6,6 +6,7 @@ ghost use Rattle.std.specs.Str.{all_ascii_digits};
 ghost use Rattle.def_fraction.specs.Digits.{is_numeral, number_of};
 ghost use Rattle.def_fraction.specs.Fraction.{fits, most, whole_number};
 ghost use Rattle.def_cert_text.specs.CertText.{version_in};
+ghost use Rattle.def_cert_text.specs.Formats.{same_bytes};
 ghost use Rattle.def_cert_text.specs.Numbers.{fraction_in, integer_in, is_no_slash, leads_no_zero, nonzero_in, over_in};
 ghost use Rattle.def_cert_text.specs.Numbers.{whole_in};
 ghost use Rattle.xg_frac.specs.Scan.{past_all};
@@ -15,6 +16,16 @@ use def_cert_text::TextVersion;
 use def_cert_verdict::ranges::MOST_PRINTED;
 use def_fraction::NumberFault;
 use xg_frac::{Frac, MOST_PART, PAST, Ratio, ratio, read_literal, read_whole};
+
+/// Whether the bytes of a field are the wanted ones.
+pub(crate) fn same_bytes(wanted: &[u8], field: &[u8]) -> Option<()>
+    ensures { result ≡ same_bytes wanted.now field.now }
+{
+    if field != wanted {
+        return None;
+    }
+    Some(())
+}
 
 fn leads_no_zero(field: &[u8]) -> bool
     ensures { result ≡ leads_no_zero field.now }
@@ -63,6 +74,15 @@ pub(crate) fn whole_in(low: u128, high: u128, field: &[u8]) -> Option<u128>
     None
 }
 
+/// A whole number of a range of small ones.
+pub(crate) fn number_in(low: u64, high: u64, field: &[u8]) -> Option<u64>
+    ensures exact { result ≡ whole_in low high field.now }
+    ensures range { IfSome result (λ n. (low ≤ n) × (n ≤ high)) }
+{
+    let number = whole_in(low as u128, high as u128, field)?;
+    Some(number as u64)
+}
+
 /// A whole number with a sign where it is below 0.
 #[tactic(auto, unfolding(def_cert_text::specs::Numbers::integer_in))]
 pub(crate) fn integer_in(field: &[u8]) -> Option<i128>
@@ -103,11 +123,17 @@ fn in_lowest_terms(num: i128, den: i128) -> Option<Ratio>
     None
 }
 
+/// How many bytes stand before the first slash.
 fn front_len(field: &[u8]) -> usize
     ensures value { result ≡ prefix_len is_no_slash field.now }
     ensures within { result ≤ length field.now }
 {
-    field.iter().take_while(|byte| **byte != b'/').count()
+    for (i, byte) in field.iter().enumerate() {
+        if *byte == b'/' {
+            return i;
+        }
+    }
+    field.len()
 }
 
 /// A fraction in lowest terms.

@@ -1,15 +1,17 @@
 //! A reader of fields.
 ghost use Rattle.std.specs.Prelude.{◌≡◌, ◌<◌, ◌≤◌, ◌-◌, length, IfOk, Some};
 ghost use Rattle.std.specs.List.{prefix_len};
-ghost use Rattle.def_cert_text.specs.Fields.{fixed_word, number, is_field_byte, read_field, separated_by};
+ghost use Rattle.def_cert_text.specs.Fields.{behind_field, fixed_word, number, is_field_byte, next_field};
 ghost use Rattle.def_cert_text.specs.Formats.{fixed_field, whole_field, integer_field, fraction_field, nonzero_field};
 ghost use Rattle.def_cert_text.specs.Formats.{read_number};
-ghost use Rattle.def_cert_text.specs.CertText.{if_at_end, version_field};
+ghost use Rattle.def_cert_text.specs.CertText.{after_word, if_at_end, version_field};
 ghost use Rattle.def_fraction.specs.Fraction.{most};
 ghost use Rattle.def_cert_verdict.specs.Ranges.{most_printed};
-ghost use Rattle.xg_cert_fields.specs.Reading.{GivesValue, small_in};
+ghost use Rattle.xg_cert_fields.specs.Reading.{GivesValue, if_behind};
 
-use crate::numbers::{fraction_in, integer_in, nonzero_in, small_in, version_in, whole_in};
+use crate::numbers::{
+    fraction_in, integer_in, nonzero_in, number_in, same_bytes, small_in, version_in,
+};
 use def_cert_text::{CertFault, TextVersion};
 use std::marker::Model;
 use xg_frac::{Frac, Ratio};
@@ -47,14 +49,25 @@ fn is_field_byte(byte: u8) -> bool
     byte != b' ' && byte != b'\n'
 }
 
+/// How many bytes stand before the first that separates.
 fn field_len(bytes: &[u8]) -> usize
     ensures value { result ≡ prefix_len is_field_byte bytes.now }
     ensures within { result ≤ length bytes.now }
 {
-    bytes
-        .iter()
-        .take_while(|byte| is_field_byte(**byte))
-        .count()
+    for (i, byte) in bytes.iter().enumerate() {
+        if !is_field_byte(*byte) {
+            return i;
+        }
+    }
+    bytes.len()
+}
+
+/// The field that stands next.
+#[derive(Clone, Copy)]
+struct NextField<'a> {
+    at: usize,
+    field: &'a [u8],
+    behind: &'a [u8],
 }
 
 impl<'a> FieldReader<'a> {
@@ -75,15 +88,14 @@ impl<'a> FieldReader<'a> {
             ((fixed_field fixed_word wanted.now separator).read self.old.total self.old.left) }
         ensures total { self.new.total ≡ self.old.total }
     {
-        let at = self.total - self.left.len();
-        let (field, left) = self.left.split_at(field_len(self.left));
-        if left.is_empty() {
-            return Err(CertFault::CertShort);
-        }
-        if field != wanted {
-            return Err(CertFault::CertSyntax { at });
-        }
-        self.behind((), left, separator)
+        let next = self.next_field();
+        let word = same_bytes(wanted, next.field);
+        self.value(
+            word,
+            CertFault::CertSyntax { at: next.at },
+            next.behind,
+            separator,
+        )
     }
 
     /// The text's version, and its line feed.
@@ -93,14 +105,9 @@ impl<'a> FieldReader<'a> {
             (version_field.read self.old.total self.old.left) }
         ensures total { self.new.total ≡ self.old.total }
     {
-        let (field, left) = self.left.split_at(field_len(self.left));
-        if left.is_empty() {
-            return Err(CertFault::CertShort);
-        }
-        let Some(version) = version_in(field) else {
-            return Err(CertFault::CertVersion);
-        };
-        self.behind(version, left, b'\n')
+        let next = self.next_field();
+        let version = version_in(next.field);
+        self.value(version, CertFault::CertVersion, next.behind, b'\n')
     }
 
     /// A number that is known, by its digits.
@@ -110,15 +117,14 @@ impl<'a> FieldReader<'a> {
             ((fixed_field number wanted.now separator).read self.old.total self.old.left) }
         ensures total { self.new.total ≡ self.old.total }
     {
-        let at = self.total - self.left.len();
-        let (field, left) = self.left.split_at(field_len(self.left));
-        if left.is_empty() {
-            return Err(CertFault::CertShort);
-        }
-        if field != wanted {
-            return Err(CertFault::CertNumber { at });
-        }
-        self.behind((), left, separator)
+        let next = self.next_field();
+        let number = same_bytes(wanted, next.field);
+        self.value(
+            number,
+            CertFault::CertNumber { at: next.at },
+            next.behind,
+            separator,
+        )
     }
 
     /// A whole number of a range.
@@ -129,15 +135,31 @@ impl<'a> FieldReader<'a> {
         ensures total { self.new.total ≡ self.old.total }
         ensures range { IfOk result (λ n. (low ≤ n) × (n ≤ high)) }
     {
-        let at = self.total - self.left.len();
-        let (field, left) = self.left.split_at(field_len(self.left));
-        if left.is_empty() {
-            return Err(CertFault::CertShort);
-        }
-        let Some(n) = whole_in(low as u128, high as u128, field) else {
-            return Err(CertFault::CertNumber { at });
-        };
-        self.behind(n as u64, left, separator)
+        let next = self.next_field();
+        let n = number_in(low, high, next.field);
+        self.value(
+            n,
+            CertFault::CertNumber { at: next.at },
+            next.behind,
+            separator,
+        )
+    }
+
+    /// A word, and a whole number of a range.
+    pub fn named(
+        &mut self,
+        word: &[u8],
+        low: u64,
+        high: u64,
+        separator: u8,
+    ) -> Result<u64, CertFault>
+        ensures exact { GivesValue (λ n. n) result self.new.left
+            ((after_word word.now (whole_field low high separator)).read self.old.total self.old.left) }
+        ensures total { self.new.total ≡ self.old.total }
+        ensures range { IfOk result (λ n. (low ≤ n) × (n ≤ high)) }
+    {
+        self.word(word, b' ')?;
+        self.whole(low, high, separator)
     }
 
     /// A number of at most 2^100 in size, with a sign where it is below 0.
@@ -147,15 +169,14 @@ impl<'a> FieldReader<'a> {
             ((integer_field most_printed separator).read self.old.total self.old.left) }
         ensures total { self.new.total ≡ self.old.total }
     {
-        let at = self.total - self.left.len();
-        let (field, left) = self.left.split_at(field_len(self.left));
-        if left.is_empty() {
-            return Err(CertFault::CertShort);
-        }
-        let Some(n) = integer_in(field) else {
-            return Err(CertFault::CertNumber { at });
-        };
-        self.behind(n, left, separator)
+        let next = self.next_field();
+        let n = integer_in(next.field);
+        self.value(
+            n,
+            CertFault::CertNumber { at: next.at },
+            next.behind,
+            separator,
+        )
     }
 
     /// A fraction in lowest terms whose parts are at most 2^100 in size.
@@ -165,56 +186,48 @@ impl<'a> FieldReader<'a> {
             ((fraction_field most_printed separator).read self.old.total self.old.left) }
         ensures total { self.new.total ≡ self.old.total }
     {
-        let at = self.total - self.left.len();
-        let (field, left) = self.left.split_at(field_len(self.left));
-        if left.is_empty() {
-            return Err(CertFault::CertShort);
-        }
-        let Some(fraction) = fraction_in(field) else {
-            return Err(CertFault::CertNumber { at });
-        };
-        self.behind(fraction, left, separator)
+        let next = self.next_field();
+        let fraction = fraction_in(next.field);
+        self.value(
+            fraction,
+            CertFault::CertNumber { at: next.at },
+            next.behind,
+            separator,
+        )
     }
 
     /// A fraction in lowest terms whose parts are at most 2^62 in size.
+    #[tactic(auto, unfolding(def_cert_text::specs::Fields::read_field))]
     pub fn small(&mut self, separator: u8) -> Result<Frac, CertFault>
         ensures exact { GivesValue (λ f. f) result self.new.left
             ((fraction_field most separator).read self.old.total self.old.left) }
         ensures total { self.new.total ≡ self.old.total }
     {
-        self.small_where(true, separator)
+        let next = self.next_field();
+        let fraction = small_in(next.field);
+        self.value(
+            fraction,
+            CertFault::CertNumber { at: next.at },
+            next.behind,
+            separator,
+        )
     }
 
     /// The same of a fraction that isn't 0.
+    #[tactic(auto, unfolding(def_cert_text::specs::Fields::read_field))]
     pub fn nonzero(&mut self, separator: u8) -> Result<Frac, CertFault>
         ensures exact { GivesValue (λ f. f) result self.new.left
             ((nonzero_field most separator).read self.old.total self.old.left) }
         ensures total { self.new.total ≡ self.old.total }
     {
-        self.small_where(false, separator)
-    }
-
-    /// The same of a fraction that may be 0 or not.
-    #[tactic(auto, unfolding(def_cert_text::specs::Fields::read_field))]
-    fn small_where(&mut self, zero: bool, separator: u8) -> Result<Frac, CertFault>
-        ensures exact { GivesValue (λ f. f) result self.new.left
-            (read_field number (small_in zero) separator self.old.total self.old.left) }
-        ensures total { self.new.total ≡ self.old.total }
-    {
-        let at = self.total - self.left.len();
-        let (field, left) = self.left.split_at(field_len(self.left));
-        if left.is_empty() {
-            return Err(CertFault::CertShort);
-        }
-        let read = if zero {
-            small_in(field)
-        } else {
-            nonzero_in(field)
-        };
-        let Some(fraction) = read else {
-            return Err(CertFault::CertNumber { at });
-        };
-        self.behind(fraction, left, separator)
+        let next = self.next_field();
+        let fraction = nonzero_in(next.field);
+        self.value(
+            fraction,
+            CertFault::CertNumber { at: next.at },
+            next.behind,
+            separator,
+        )
     }
 
     /// A whole number of a range, with a space or a line feed behind it.
@@ -224,19 +237,16 @@ impl<'a> FieldReader<'a> {
             (read_number low high self.old.total self.old.left) }
         ensures total { self.new.total ≡ self.old.total }
     {
-        let at = self.total - self.left.len();
-        let (field, left) = self.left.split_at(field_len(self.left));
-        let [end, left @ ..] = left else {
+        let next = self.next_field();
+        let [end, left @ ..] = next.behind else {
             return Err(CertFault::CertShort);
         };
-        let Some(n) = whole_in(low as u128, high as u128, field) else {
-            return Err(CertFault::CertNumber { at });
+        let Some(number) = number_in(low, high, next.field) else {
+            return Err(CertFault::CertNumber { at: next.at });
         };
         self.left = left;
-        Ok(EndedNumber {
-            number: n as u64,
-            last: *end == b'\n',
-        })
+        let last = *end == b'\n';
+        Ok(EndedNumber { number, last })
     }
 
     /// The end of the text.
@@ -251,22 +261,46 @@ impl<'a> FieldReader<'a> {
         Ok(())
     }
 
-    /// A value that was read, where its separator is the first byte of what is left.
-    fn behind<T: Copy>(&mut self, value: T, left: &'a [u8], separator: u8) -> Result<T, CertFault>
-        requires { length left.now ≤ self.old.total }
-        ensures exact { GivesValue (λ v. v) result self.new.left
-            (separated_by separator self.old.total value left.now) }
-        ensures total { self.new.total ≡ self.old.total }
+    fn next_field(&self) -> NextField<'a>
+        ensures at { result.at ≡ self.now.total - length self.now.left }
+        ensures field { result.field.now ≡ next_field self.now.left }
+        ensures behind { result.behind.now ≡ behind_field self.now.left }
+        ensures within { length result.behind.now ≤ self.now.total }
     {
-        let [first, rest @ ..] = left else {
+        let (field, behind) = self.left.split_at(field_len(self.left));
+        NextField {
+            at: self.total - self.left.len(),
+            field,
+            behind,
+        }
+    }
+
+    /// The value of a field, or the fault where it has none, and the separator, which is the first byte behind it.
+    fn value<T: Copy>(
+        &mut self,
+        value: Option<T>,
+        unfit: CertFault,
+        behind: &'a [u8],
+        separator: u8,
+    ) -> Result<T, CertFault>
+        requires { length behind.now ≤ self.old.total }
+        ensures exact { GivesValue (λ v. v) result self.new.left
+            (if_behind unfit separator self.old.total value behind.now) }
+        ensures total { self.new.total ≡ self.old.total }
+        ensures read { IfOk result (λ v. value ≡ Some v) }
+    {
+        let [first, left @ ..] = behind else {
             return Err(CertFault::CertShort);
+        };
+        let Some(value) = value else {
+            return Err(unfit);
         };
         if *first != separator {
             return Err(CertFault::CertSyntax {
-                at: self.total - left.len(),
+                at: self.total - behind.len(),
             });
         }
-        self.left = rest;
+        self.left = left;
         Ok(value)
     }
 }

@@ -17,7 +17,9 @@ returns-in_err-row-clause-exact c =
     let bytes = c.rows.reader.left in
     rw (p.1, p.2) (each_fails lines (Cert c.in_err-row.field-0.0) c.rows.rows.items (evaluation_count head) c.rows.i _ bytes _
     (rw (sym c.evaluation_count-count.ensures) c.rows-test.true)
-    (subst (λ (t : ℕ). Fails (Cert c.in_err-row.field-0.0) ((lines (c.rows.i + 1)).read t bytes)) c.rows.invariant.total c.in_err-row.ensures.exact)
+    (subst (λ (t : ℕ). Fails (Cert c.in_err-row.field-0.0) ((lines (c.rows.i + 1)).read t bytes)) c.rows.invariant.total
+    (subst (λ (round : ℕ). Fails (Cert c.in_err-row.field-0.0) ((line_of_round round).read c.rows.reader.total bytes)) c.round_of_evaluation.ensures
+    c.in_err-row.ensures.exact))
     c.rows.invariant.rest)
 
 pub rows-preserved : goal.rows-preserved
@@ -29,7 +31,9 @@ rows-preserved c =
       total = c.in_ok-row.ensures.total ∙ c.rows.invariant.total;
       rest = rw c.in_ok-push.ensures.items (each_goes_on lines c.rows.rows.items (evaluation_count head) c.rows.i _ bytes c.in_ok-row.row _ _
           (rw (sym c.evaluation_count-count.ensures) c.rows-test.true)
-          (ap (λ (t : ℕ). (lines (c.rows.i + 1)).read t bytes) (sym c.rows.invariant.total) ∙ c.in_ok-row.ensures.exact) c.rows.invariant.rest);
+          (ap (λ (t : ℕ). (lines (c.rows.i + 1)).read t bytes) (sym c.rows.invariant.total)
+          ∙ ap (λ (round : ℕ). (line_of_round round).read c.rows.reader.total bytes) (sym c.round_of_evaluation.ensures) ∙ c.in_ok-row.ensures.exact)
+          c.rows.invariant.rest);
     }
 
 pub returns-clause-exact : goal.returns-clause-exact
