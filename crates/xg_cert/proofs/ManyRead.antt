@@ -54,6 +54,12 @@ each_done f front count i total bytes all none so_far =
     let end : behind_front front (read_each f (i + 1) (count - i) total bytes) ≡ Ok (front, bytes) = rw k (ap (λ xs. Ok (xs, bytes)) (append-nil front)) in
     sym so_far ∙ end
 
+-- where each fault of a part is the fault of the whole, what refuses the part refuses the whole
+pub refused_so : {X Y : Type 0} (refused : CertRefused) (part : Result X CertFault) (all : Result Y CertFault)
+    → ((fault : CertFault) → part ≡ Err fault → all ≡ Err fault) → Fails refused part → Fails refused all
+refused_so NoMemory part all so fails = tt
+refused_so (Cert fault) part all so fails = so fault fails
+
 -- ---- the numbers of a set
 -- a number that isn't the last of its line joins the front, and behind it the rest of the row gives all that is read
 pub row_goes_on : (most : ℕ) (front : List ℕ) (more i total : ℕ) (bytes : List ℕ) (n : ℕ) (last : Bool) (left : List ℕ)

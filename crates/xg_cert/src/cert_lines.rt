@@ -62,7 +62,8 @@ pub(crate) fn put_value_line<O: Sink>(
     line: ValueLine,
     out: &mut O,
 ) -> Result<(), WriteFault>
-    ensures text { Writes (O.written out.old) (O.written out.new) (text_of (value_line set) (set_reply_of line)) result }
+    ensures text { Writes (O.written out.old) (O.written out.new)
+        (text_of (value_line set) (set_reply_of line)) result }
     ensures cause { HasCause (O.faults out.old) (O.faults out.new) result }
 {
     let items = [

@@ -2,13 +2,11 @@
 ghost use Rattle.std.specs.Prelude.{◌<◌};
 ghost use Rattle.std.specs.Fmt.{decimal};
 ghost use Rattle.def_outside.specs.Cause.{HasCause};
-ghost use Rattle.def_fraction.specs.Text.{fraction_text};
 ghost use Rattle.def_outside.specs.Sinks.{Writes};
 ghost use Rattle.xg_cert.specs.Writes.{field_text};
 ghost use Rattle.xg_cert.specs.declared.fields.TheConstants.{SHORT};
 
 use itoa::Buffer;
-use xg_frac::{Ratio, put_ratio};
 use xg_io::{Sink, WriteFault, write_all};
 
 /// Fields shorter than this go to the sink in one piece with their separators.
@@ -37,14 +35,4 @@ pub(crate) fn put_whole<O: Sink>(n: u64, separator: u8, out: &mut O) -> Result<(
 {
     let mut buffer = Buffer::new();
     put_field(buffer.format(n).as_bytes(), separator, out)
-}
-
-/// A fraction.
-#[tactic(auto, using(xg_io::proofs::Pieces::prefix_first, xg_io::proofs::Pieces::then_rest), unfolding(crate::specs::Writes::field_text))]
-pub(crate) fn put_fraction<O: Sink>(r: Ratio, separator: u8, out: &mut O) -> Result<(), WriteFault>
-    ensures text { Writes (O.written out.old) (O.written out.new) (field_text (fraction_text r) separator) result }
-    ensures cause { HasCause (O.faults out.old) (O.faults out.new) result }
-{
-    put_ratio(r, out)?;
-    write_all(out, &[separator])
 }

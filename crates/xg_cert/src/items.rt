@@ -5,10 +5,10 @@ ghost use Rattle.def_cert_text.specs.Fields.{items_text};
 ghost use Rattle.xg_cert.specs.Items.{field_bytes, items_of, separator_of};
 ghost use Rattle.xg_cert.specs.Writes.{field_text};
 
-use crate::fields::{put_field, put_fraction, put_whole};
+use crate::fields::{put_field, put_whole};
 use itoa::Buffer;
-use xg_frac::Ratio;
-use xg_io::{Sink, WriteFault};
+use xg_frac::{Ratio, put_ratio};
+use xg_io::{Sink, WriteFault, write_all};
 
 /// A field, and the byte behind it.
 #[derive(Clone, Copy)]
@@ -34,6 +34,7 @@ pub(crate) fn put_items<O: Sink>(items: &[Item<'_>], out: &mut O) -> Result<(), 
     Ok(())
 }
 
+#[tactic(auto, using(xg_io::proofs::Pieces::prefix_first, xg_io::proofs::Pieces::then_rest), unfolding(crate::specs::Writes::field_text))]
 fn put_item<O: Sink>(item: &Item<'_>, out: &mut O) -> Result<(), WriteFault>
     ensures text { Writes (O.written out.old) (O.written out.new)
         (field_text (field_bytes item.now) (separator_of item.now)) result }
@@ -46,6 +47,9 @@ fn put_item<O: Sink>(item: &Item<'_>, out: &mut O) -> Result<(), WriteFault>
             let mut buffer = Buffer::new();
             put_field(buffer.format(n).as_bytes(), separator, out)
         }
-        Item::Fraction(fraction, separator) => put_fraction(fraction, separator, out),
+        Item::Fraction(fraction, separator) => {
+            put_ratio(fraction, out)?;
+            write_all(out, &[separator])
+        }
     }
 }

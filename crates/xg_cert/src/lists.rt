@@ -2,7 +2,7 @@
 ghost use Rattle.std.specs.Prelude.{◌<◌, length};
 ghost use Rattle.def_outside.specs.Cause.{HasCause};
 ghost use Rattle.def_cert_text.specs.Fields.{items_text};
-ghost use Rattle.def_cert_text.specs.Formats.{each_items, row_items, text_of};
+ghost use Rattle.def_cert_text.specs.Formats.{each_items, text_of};
 ghost use Rattle.def_cert_text.specs.CertText.{line_of_round, value_line, weights_line};
 ghost use Rattle.def_outside.specs.Sinks.{Writes};
 ghost use Rattle.xg_cert.specs.Printed.{plan_in, reply_in};
@@ -26,19 +26,6 @@ pub(crate) fn put_trace<O: Sink>(rows: &[TraceLine], out: &mut O) -> Result<(), 
     Ok(())
 }
 
-/// The numbers of a set, up to the line feed.
-pub(crate) fn put_numbers<O: Sink>(numbers: &[u64], out: &mut O) -> Result<(), WriteFault>
-    requires { 0 < length numbers.now }
-    ensures text { Writes (O.written out.old) (O.written out.new) (items_text (row_items numbers.now)) result }
-    ensures cause { HasCause (O.faults out.old) (O.faults out.new) result }
-{
-    let last = numbers.len() - 1;
-    'numbers: for i in 0..last {
-        put_whole(numbers[i], b' ', out)?;
-    }
-    put_whole(numbers[last], b'\n', out)
-}
-
 /// The numbers of a player's sets, a line for each.
 pub(crate) fn put_weights<B: Bounds, O: Sink>(
     bounds: &B,
@@ -56,7 +43,7 @@ pub(crate) fn put_weights<B: Bounds, O: Sink>(
     Ok(())
 }
 
-#[tactic(auto, using(crate::proofs::Written::first_two, crate::proofs::Written::then_two))]
+#[tactic(auto, using(crate::proofs::Written::first_two))]
 fn put_weights_line<O: Sink>(set: u32, numbers: &[u64], out: &mut O) -> Result<(), WriteFault>
     requires { 0 < length numbers.now }
     ensures text { Writes (O.written out.old) (O.written out.new) (text_of (weights_line set) numbers.now) result }
@@ -64,7 +51,11 @@ fn put_weights_line<O: Sink>(set: u32, numbers: &[u64], out: &mut O) -> Result<(
 {
     let start = [Item::Word(b"weights"), Item::Whole(set as u64, b' ')];
     put_items(&start, out)?;
-    put_numbers(numbers, out)
+    let last = numbers.len() - 1;
+    'numbers: for i in 0..last {
+        put_whole(numbers[i], b' ', out)?;
+    }
+    put_whole(numbers[last], b'\n', out)
 }
 
 /// The values and choices of a player's reply, a line for each set.

@@ -1,10 +1,9 @@
 //! Reading the lines of which there are many.
-ghost use Rattle.std.specs.Prelude.{◌≡◌, ◌-◌, ◌+◌, ◌*◌, ◌/◌, ◌≤◌, min, IfOk};
-ghost use Rattle.def_sums.specs.Limits.{most_root, most_rounds};
-ghost use Rattle.def_tree.specs.Rules.{most_actions, most_nodes};
-ghost use Rattle.def_cert_text.specs.Formats.{read_each, read_row};
+ghost use Rattle.std.specs.Prelude.{◌≡◌, ◌-◌, ◌+◌, ◌*◌, ◌/◌, ◌≤◌, min};
+ghost use Rattle.def_sums.specs.Limits.{most_rounds};
+ghost use Rattle.def_tree.specs.Rules.{most_nodes};
 ghost use Rattle.def_cert_text.specs.CertText.{evaluation_count, line_of_round, round_of_evaluation, trace_lines};
-ghost use Rattle.def_cert_text.specs.CertText.{value_line, weights_line};
+ghost use Rattle.def_cert_text.specs.CertText.{plan_lines, reply_lines, weights_line};
 ghost use Rattle.xg_cert_fields.specs.Reading.{GivesValue};
 ghost use Rattle.xg_outcome.specs.Outcome.{head_of};
 ghost use Rattle.xg_cert.specs.Answers.{Extends, GivesValueFor};
@@ -62,12 +61,17 @@ pub(crate) fn trace_lines(
     Ok(rows)
 }
 
-/// The numbers of a set, put behind those before.
-fn row(reader: &mut FieldReader<'_>, numbers: &mut Vec<u64>) -> Result<(), CertRefused>
+/// The line of a set in a plan: its numbers, put behind those before.
+fn weights_line(
+    reader: &mut FieldReader<'_>,
+    set: u32,
+    numbers: &mut Vec<u64>,
+) -> Result<(), CertRefused>
     ensures exact { Extends numbers.old.items numbers.new.items result reader.new.left
-        (read_row most_root (most_actions - 1) reader.old.total reader.old.left) }
+        ((weights_line set).read reader.old.total reader.old.left) }
     ensures total { reader.new.total ≡ reader.old.total }
 {
+    set_named(reader, b"weights", set)?;
     'items: for _ in 0..MORE {
         let item = reader.number_with_end(0, MOST_ROOT)?;
         numbers.push(item.number)?;
@@ -80,32 +84,20 @@ fn row(reader: &mut FieldReader<'_>, numbers: &mut Vec<u64>) -> Result<(), CertR
     Ok(())
 }
 
-fn weights_line(
-    reader: &mut FieldReader<'_>,
-    set: u32,
-    numbers: &mut Vec<u64>,
-) -> Result<(), CertRefused>
-    ensures exact { Extends numbers.old.items numbers.new.items result reader.new.left
-        ((weights_line set).read reader.old.total reader.old.left) }
-    ensures total { reader.new.total ≡ reader.old.total }
-{
-    set_named(reader, b"weights", set)?;
-    row(reader, numbers)
-}
-
-/// A line for each set, below the root.
-pub(crate) fn weights_lines(
+/// A player's plan, by the player's digit: the root, and a line for each set.
+pub(crate) fn plan_lines(
     reader: &mut FieldReader<'_>,
     alloc: Global,
-    root: u64,
+    digit: &[u8],
     sets: u32,
 ) -> Result<PlanLines, CertRefused>
     requires { sets ≤ most_nodes }
-    ensures exact { GivesValueFor (λ plan. plan.weights) result reader.new.left
-        (read_each weights_line 1 sets reader.old.total reader.old.left) }
-    ensures root { IfOk result (λ plan. plan.root ≡ root) }
+    ensures exact { GivesValueFor (λ plan. plan) result reader.new.left
+        ((plan_lines digit.now sets).read reader.old.total reader.old.left) }
     ensures total { reader.new.total ≡ reader.old.total }
 {
+    reader.word(b"plan", b' ')?;
+    let root = reader.named(digit, 1, MOST_ROOT, b'\n')?;
     let mut numbers = Vec::new(alloc);
     numbers.push(root)?;
     let mut starts = Vec::new(alloc);
@@ -117,19 +109,21 @@ pub(crate) fn weights_lines(
     Ok(PlanLines { numbers, starts })
 }
 
-/// A line for each set, below the total.
-pub(crate) fn value_lines(
+/// A player's reply, by the player's digit: the total, and a line for each set.
+pub(crate) fn reply_lines(
     reader: &mut FieldReader<'_>,
     alloc: Global,
-    total: i128,
+    digit: &[u8],
     sets: u32,
 ) -> Result<ReplyLines, CertRefused>
     requires { sets ≤ most_nodes }
-    ensures exact { GivesValueFor (λ reply. reply.sets) result reader.new.left
-        (read_each value_line 1 sets reader.old.total reader.old.left) }
-    ensures reply_total { IfOk result (λ reply. reply.total ≡ total) }
+    ensures exact { GivesValueFor (λ reply. reply) result reader.new.left
+        ((reply_lines digit.now sets).read reader.old.total reader.old.left) }
     ensures total { reader.new.total ≡ reader.old.total }
 {
+    reader.word(b"reply", b' ')?;
+    reader.word(digit, b' ')?;
+    let total = reader.integer(b'\n')?;
     let mut values = Vec::new(alloc);
     let mut choices = Vec::new(alloc);
     'sets: for i in 0..sets {

@@ -1,9 +1,8 @@
 //! Reading a text.
-ghost use Rattle.std.specs.Prelude.{◌≡◌, ◌≤◌, Ok, Err, IfOk};
-ghost use Rattle.def_tree.specs.Rules.{most_nodes};
+ghost use Rattle.std.specs.Prelude.{◌≡◌, Ok, Err, IfOk};
 ghost use Rattle.def_cert_text.specs.Versions.{VersionedCertificate, VersionedFits};
 ghost use Rattle.def_cert_text.specs.declared.fault.CertFault as fault;
-ghost use Rattle.def_cert_text.specs.CertText.{bounds_lines, last_lines, plan_lines, reply_lines};
+ghost use Rattle.def_cert_text.specs.CertText.{bounds_lines, last_lines};
 ghost use Rattle.def_cert_text.specs.CertText.{versioned_in, versioned_text};
 ghost use Rattle.def_cert_text.specs.FirstFault.{FirstVersionedFault};
 ghost use Rattle.xg_cert.specs.declared.refused.CertRefused.TheVariants as refused;
@@ -13,12 +12,10 @@ ghost use Rattle.xg_cert.specs.ReadCert.{IsReadHead, bounds_of};
 ghost use Rattle.xg_cert.specs.ReadCert.{second_where_given};
 
 use crate::cert::{BoundsLines, Cert, CertLines};
-use crate::printed::{PlanLines, ReplyLines};
 use crate::read_lines::{ends_line, head_lines};
-use crate::read_lists::{trace_lines, value_lines, weights_lines};
+use crate::read_lists::{plan_lines, reply_lines, trace_lines};
 use crate::refused::CertRefused;
 use def_cert_text::{CertFault, TextVersion};
-use def_sums::MOST_ROOT;
 use std::alloc::Global;
 use xg_cert_fields::FieldReader;
 use xg_frac::Ratio;
@@ -118,39 +115,4 @@ fn bounds_lines(
         low,
         high,
     })
-}
-
-/// A player's plan, by the player's digit.
-fn plan_lines(
-    reader: &mut FieldReader<'_>,
-    alloc: Global,
-    digit: &[u8],
-    sets: u32,
-) -> Result<PlanLines, CertRefused>
-    requires { sets ≤ most_nodes }
-    ensures exact { GivesValueFor (λ plan. plan) result reader.new.left
-        ((plan_lines digit.now sets).read reader.old.total reader.old.left) }
-    ensures total { reader.new.total ≡ reader.old.total }
-{
-    reader.word(b"plan", b' ')?;
-    let root = reader.named(digit, 1, MOST_ROOT, b'\n')?;
-    weights_lines(reader, alloc, root, sets)
-}
-
-/// A player's reply, by the player's digit.
-fn reply_lines(
-    reader: &mut FieldReader<'_>,
-    alloc: Global,
-    digit: &[u8],
-    sets: u32,
-) -> Result<ReplyLines, CertRefused>
-    requires { sets ≤ most_nodes }
-    ensures exact { GivesValueFor (λ reply. reply) result reader.new.left
-        ((reply_lines digit.now sets).read reader.old.total reader.old.left) }
-    ensures total { reader.new.total ≡ reader.old.total }
-{
-    reader.word(b"reply", b' ')?;
-    reader.word(digit, b' ')?;
-    let total = reader.integer(b'\n')?;
-    value_lines(reader, alloc, total, sets)
 }

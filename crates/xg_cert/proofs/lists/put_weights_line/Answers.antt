@@ -1,12 +1,25 @@
-use Rattle.std.proofs.Common.{◌≡◌, ◌∙◌, subst, arith, length, rules, get_or, sym, ap, List, ℕ, ◌-◌, drop}
+use Rattle.std.proofs.Common.{◌≡◌, ◌∙◌, [], ◌∷◌, codes, subst, arith, length, rules, get_or, sym, ap, List, ℕ, ◌-◌, drop}
 use Rattle.std.specs.Fmt.{decimal}
-use Rattle.def_cert_text.specs.Fields.{feed, items_text}
+use Rattle.def_cert_text.specs.Fields.{space, feed, fixed_word, number, TextItem, field, separator, items_text}
+use Rattle.def_cert_text.proofs.FormatLaws.{items_text-append}
 use Rattle.def_cert_text.specs.Formats.{row_items}
 use Rattle.def_outside.specs.Sinks.{Writes}
 use Rattle.xg_cert.specs.Writes.{field_text}
 use Rattle.xg_io.proofs.Pieces.{goes_on, fails, finishes}
 use Rattle.xg_cert.proofs.Written.{row_left, row_last}
-use Rattle.xg_cert.proofs.lists.put_numbers.Goals as goal
+use Rattle.xg_cert.proofs.lists.put_weights_line.Goals as goal
+
+pub numbers-init : goal.numbers-init
+numbers-init g c =
+    let start : List TextItem = field fixed_word (codes "weights") ∷ separator space ∷ field number (decimal c.args.set) ∷ separator space ∷ [] in
+    record {
+      so_far = record {
+        front = items_text start;
+        split = items_text-append start (row_items c.args.numbers.now);
+        appended = c.in_ok-put_items.ensures.text;
+      };
+      blameless = c.in_ok-put_items.ensures.cause;
+    }
 
 pub returns-in_err-put_whole-clause-text : goal.returns-in_err-put_whole-clause-text
 returns-in_err-put_whole-clause-text g c =

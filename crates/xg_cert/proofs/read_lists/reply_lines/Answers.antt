@@ -1,21 +1,23 @@
-use Rattle.std.proofs.Common.{rules, ◌≡◌, ℕ, ◌+◌, [], ◌∷◌, ◌++◌, ◌∙◌, ap, arith, length, length-append, subst, sym}
+use Rattle.std.proofs.Common.{rules, ◌≡◌, Err, ℕ, ◌+◌, [], ◌∷◌, ◌++◌, ◌∙◌, ap, arith, length, length-append, subst, sym}
 use Rattle.std.proofs.lemmas.Result.{err_from_is_err_and}
+use Rattle.def_cert_text.specs.Formats.{read_each}
 use Rattle.def_cert_text.specs.CertText.{value_line}
 use Rattle.xg_plan.specs.Reply.{set_replies}
 use Rattle.xg_cert.specs.declared.refused.CertRefused.TheVariants.{Cert}
 use Rattle.xg_cert.specs.Answers.{Fails}
 use Rattle.xg_cert.specs.ReadCert.{set_reply_of}
 use Rattle.xg_cert.proofs.ManyRead.{each_done, each_fails, each_goes_on, set_replies-push}
-use Rattle.xg_cert.proofs.read_lists.value_lines.Goals as goal
+use Rattle.xg_cert.proofs.read_lists.reply_lines.Goals as goal
 
 pub returns-in_err-line-clause-exact : goal.returns-in_err-line-clause-exact
 returns-in_err-line-clause-exact c =
-    let p = err_from_is_err_and c.from_residual.result c.from_residual.ensures.1 in
+    let p = err_from_is_err_and c.from_residual-in_err-line.result c.from_residual-in_err-line.ensures.1 in
     let bytes = c.sets.reader.left in
-    rw (p.1, p.2) (each_fails value_line (Cert c.in_err-line.field-0.0) (set_replies c.sets.values.items c.sets.choices.items) c.args.sets c.sets.i _ bytes _
-    c.sets-test.true
+    let fact : read_each value_line 1 c.args.sets c.args.reader.now.total c.integer.new.self.left ≡ Err c.in_err-line.field-0.0 =
+    each_fails value_line (Cert c.in_err-line.field-0.0) (set_replies c.sets.values.items c.sets.choices.items) c.args.sets c.sets.i _ bytes _ c.sets-test.true
     (subst (λ (t : ℕ). Fails (Cert c.in_err-line.field-0.0) ((value_line (c.sets.i + 1)).read t bytes)) c.sets.invariant.total c.in_err-line.ensures.exact)
-    c.sets.invariant.rest)
+    c.sets.invariant.rest in
+    rw (p.1, p.2) (search (rules, fact))
 
 pub sets-preserved : goal.sets-preserved
 sets-preserved c =
@@ -42,5 +44,6 @@ sets-preserved c =
 
 pub returns-clause-exact : goal.returns-clause-exact
 returns-clause-exact c =
-    each_done value_line (set_replies c.sets.values.items c.sets.choices.items) c.args.sets c.sets.i _ c.sets.reader.left _ c.sets-test.false
-    c.sets.invariant.rest
+    let fact = each_done value_line (set_replies c.sets.values.items c.sets.choices.items) c.args.sets c.sets.i _ c.sets.reader.left _ c.sets-test.false
+    c.sets.invariant.rest in
+    search (rules, fact)
