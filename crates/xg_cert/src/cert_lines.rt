@@ -9,7 +9,7 @@ ghost use Rattle.xg_cert.specs.ReadCert.{set_reply_of};
 ghost use Rattle.xg_cert.specs.Writable.{opening_line};
 ghost use Rattle.def_outside.specs.Sinks.{Writes};
 
-use crate::items::{Item, put_items};
+use crate::items::{FEED, Item, SPACE, put_items};
 use crate::read_lines::ValueLine;
 use def_reply::TraceLine;
 use xg_frac::Ratio;
@@ -48,11 +48,11 @@ pub(crate) fn put_trace_line<O: Sink>(row: &TraceLine, out: &mut O) -> Result<()
 {
     let items = [
         Item::Word(b"trace"),
-        Item::Whole(row.round as u64, b' '),
-        Item::Whole(row.low_round as u64, b' '),
-        Item::Signed(row.low, b' '),
-        Item::Whole(row.high_round as u64, b' '),
-        Item::Signed(row.high, b'\n'),
+        Item::Whole(row.round as u64, SPACE),
+        Item::Whole(row.low_round as u64, SPACE),
+        Item::Signed(row.low, SPACE),
+        Item::Whole(row.high_round as u64, SPACE),
+        Item::Signed(row.high, FEED),
     ];
     put_items(&items, out)
 }
@@ -68,9 +68,9 @@ pub(crate) fn put_value_line<O: Sink>(
 {
     let items = [
         Item::Word(b"value"),
-        Item::Whole(set as u64, b' '),
-        Item::Signed(line.value, b' '),
-        Item::Whole(line.choice as u64, b'\n'),
+        Item::Whole(set as u64, SPACE),
+        Item::Signed(line.value, SPACE),
+        Item::Whole(line.choice as u64, FEED),
     ];
     put_items(&items, out)
 }
@@ -89,8 +89,8 @@ pub fn put_ends_line<O: Sink>(
 {
     let items = [
         Item::Word(word),
-        Item::Fraction(low, b' '),
-        Item::Fraction(high, b'\n'),
+        Item::Fraction(low, SPACE),
+        Item::Fraction(high, FEED),
     ];
     put_items(&items, out)
 }

@@ -10,7 +10,13 @@ use itoa::Buffer;
 use xg_frac::{Ratio, put_ratio};
 use xg_io::{Sink, WriteFault, write_all};
 
-/// A field, and the byte behind it.
+/// What stands behind a field within a line.
+pub(crate) const SPACE: u8 = b' ';
+
+/// What stands behind the last field of a line.
+pub(crate) const FEED: u8 = b'\n';
+
+/// A field, and the byte behind it, `SPACE` or `FEED`.
 #[derive(Clone, Copy)]
 pub(crate) enum Item<'a> {
     /// A word and a space.
@@ -41,7 +47,7 @@ fn put_item<O: Sink>(item: &Item<'_>, out: &mut O) -> Result<(), WriteFault>
     ensures cause { HasCause (O.faults out.old) (O.faults out.new) result }
 {
     match *item {
-        Item::Word(word) => put_field(word, b' ', out),
+        Item::Word(word) => put_field(word, SPACE, out),
         Item::Whole(n, separator) => put_whole(n, separator, out),
         Item::Signed(n, separator) => {
             let mut buffer = Buffer::new();

@@ -7,7 +7,7 @@ ghost use Rattle.def_cert_text.specs.CertText.{head_text};
 ghost use Rattle.xg_outcome.specs.Outcome.{head_of};
 ghost use Rattle.xg_cert.specs.Writes.{counts_text};
 
-use crate::items::{Item, put_items};
+use crate::items::{FEED, Item, SPACE, put_items};
 use xg_frac::{Frac, Ratio, ratio};
 use xg_io::{Sink, WriteFault};
 use xg_outcome::Head;
@@ -30,14 +30,14 @@ fn put_head<O: Sink>(head: &Head, out: &mut O) -> Result<(), WriteFault>
     ensures cause { HasCause (O.faults out.old) (O.faults out.new) result }
 {
     let (unit, mass) = (Item::Word(b"unit"), Item::Word(b"mass"));
-    let mass_line = Item::Whole(head.mass, b'\n');
+    let mass_line = Item::Whole(head.mass, FEED);
     put_counts(head, out)?;
     if head.sum.is_zero() {
-        let unit_line = Item::Whole(head.unit, b'\n');
+        let unit_line = Item::Whole(head.unit, FEED);
         return put_items(&[unit, unit_line, mass, mass_line], out);
     }
-    let unit_before = Item::Whole(head.unit, b' ');
-    let sum_line = Item::Fraction(wide(head.sum), b'\n');
+    let unit_before = Item::Whole(head.unit, SPACE);
+    let sum_line = Item::Fraction(wide(head.sum), FEED);
     let sum = Item::Word(b"sum");
     put_items(&[unit, unit_before, sum, sum_line, mass, mass_line], out)
 }
@@ -49,15 +49,15 @@ pub(crate) fn put_counts<O: Sink>(head: &Head, out: &mut O) -> Result<(), WriteF
 {
     let items = [
         Item::Word(b"nodes"),
-        Item::Whole(head.nodes as u64, b' '),
+        Item::Whole(head.nodes as u64, SPACE),
         Item::Word(b"leaves"),
-        Item::Whole(head.leaves as u64, b'\n'),
+        Item::Whole(head.leaves as u64, FEED),
         Item::Word(b"sets"),
-        Item::Whole(head.sets.0 as u64, b' '),
-        Item::Whole(head.sets.1 as u64, b'\n'),
+        Item::Whole(head.sets.0 as u64, SPACE),
+        Item::Whole(head.sets.1 as u64, FEED),
         Item::Word(b"sequences"),
-        Item::Whole(head.sequences.0 as u64, b' '),
-        Item::Whole(head.sequences.1 as u64, b'\n'),
+        Item::Whole(head.sequences.0 as u64, SPACE),
+        Item::Whole(head.sequences.1 as u64, FEED),
     ];
     put_items(&items, out)
 }

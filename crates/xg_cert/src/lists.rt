@@ -10,7 +10,7 @@ ghost use Rattle.xg_cert.specs.Printed.{plan_in, reply_in};
 use crate::bounds::Bounds;
 use crate::cert_lines::{put_trace_line, put_value_line};
 use crate::fields::put_whole;
-use crate::items::{Item, put_items};
+use crate::items::{Item, SPACE, put_items};
 use def_reply::TraceLine;
 use def_tree::Player;
 use xg_io::{Sink, WriteFault};
@@ -49,7 +49,7 @@ fn put_weights_line<O: Sink>(set: u32, numbers: &[u64], out: &mut O) -> Result<(
     ensures text { Writes (O.written out.old) (O.written out.new) (text_of (weights_line set) numbers.now) result }
     ensures cause { HasCause (O.faults out.old) (O.faults out.new) result }
 {
-    let start = [Item::Word(b"weights"), Item::Whole(set as u64, b' ')];
+    let start = [Item::Word(b"weights"), Item::Whole(set as u64, SPACE)];
     put_items(&start, out)?;
     let last = numbers.len() - 1;
     'numbers: for i in 0..last {

@@ -18,7 +18,7 @@ ghost use Rattle.xg_cert.specs.Writable.{end_text, text_under};
 use crate::bounds::{Bounds, FormBounds};
 use crate::cert::Cert;
 use crate::cert_lines::{FirstLine, put_ends_line, put_first_line, put_last_line};
-use crate::items::{Item, put_items};
+use crate::items::{FEED, Item, SPACE, put_items};
 use crate::lines::{put_counts, wide};
 use crate::lists::{put_trace, put_values, put_weights};
 use crate::second::second_end;
@@ -42,10 +42,10 @@ fn put_end<'a, B: Bounds, O: Sink>(
         (reply_in other (B.printed bounds.now))) result }
     ensures cause { HasCause (O.faults out.old) (O.faults out.new) result }
 {
-    let root = Item::Whole(bounds.root(player), b'\n');
+    let root = Item::Whole(bounds.root(player), FEED);
     put_items(&[Item::Word(b"plan"), Item::Word(digit), root], out)?;
     put_weights(bounds, player, out)?;
-    let total = Item::Signed(bounds.total(other), b'\n');
+    let total = Item::Signed(bounds.total(other), FEED);
     put_items(&[Item::Word(b"reply"), Item::Word(reply_digit), total], out)?;
     put_values(bounds, other, out)
 }
@@ -82,17 +82,17 @@ fn put_above<O: Sink>(first: FirstLine, head: &Head, out: &mut O) -> Result<(), 
 {
     let items = [
         Item::Word(b"unit"),
-        Item::Whole(head.unit, b'\n'),
+        Item::Whole(head.unit, FEED),
         Item::Word(b"mass"),
-        Item::Whole(head.mass, b'\n'),
+        Item::Whole(head.mass, FEED),
         Item::Word(b"sum"),
-        Item::Fraction(wide(head.sum), b'\n'),
+        Item::Fraction(wide(head.sum), FEED),
         Item::Word(b"rounds"),
-        Item::Whole(head.rounds as u64, b' '),
+        Item::Whole(head.rounds as u64, SPACE),
         Item::Word(b"every"),
-        Item::Whole(head.every as u64, b' '),
+        Item::Whole(head.every as u64, SPACE),
         Item::Word(b"scale"),
-        Item::Whole(head.scale as u64, b'\n'),
+        Item::Whole(head.scale as u64, FEED),
     ];
     put_first_line(first, out)?;
     put_counts(head, out)?;
