@@ -1,8 +1,9 @@
 -- The offers of the evaluated rounds, round by round.
-use Rattle.std.proofs.Common.{◌≡◌, ℕ, ◌+◌, ◌-◌, ◌%◌, ◌<◌, ◌≤◌, Bool, true, false, cond, ◌||◌, eqb, eq-eqb, ne_eqb, ◌⊎◌, ⊎_elim, List, [], ◌∷◌, ◌++◌, length}
+use Rattle.std.proofs.Common.{◌≡◌, ℕ, ◌+◌, ◌-◌, ◌%◌, ◌<◌, ◌≤◌, Bool, true, false, cond, ◌||◌, eqb, eq-eqb, ne_eqb, List, [], ◌∷◌, ◌++◌, length}
 use Rattle.std.proofs.Common.{map, filter, refl, ap, ◌∙◌, sym, arith, length-append}
 use Rattle.std.specs.List.{range_with_len}
 use Rattle.std.proofs.Math.Bool.{or-true}
+use Rattle.std.proofs.lemmas.Bool.{true≢false}
 use Rattle.std.proofs.lemmas.List.{length-map, map-append}
 use Rattle.std.proofs.lemmas.List.Elements.{filter-append}
 use Rattle.std.proofs.lemmas.List.Sums.{fold-append}
@@ -52,19 +53,25 @@ module _ (variant : Variant) (form : SequenceForm) (settings : Settings) where
       ap (map offer_at) (kept_more is_due n ∙ ap (λ b. due n ++ cond b ((n + 1) ∷ []) []) now)
       ∙ map-append offer_at (due n) ((n + 1) ∷ [])
 
-  -- a round that `every` divides, or else that is the last one, is evaluated
-  pub due_now : (n : ℕ)
-      → ((n + 1) % settings.every ≡ 0) ⊎ (((n + 1) % settings.every ≡ 0 → ⊥) × (n + 1 ≡ settings.rounds))
-      → is_due (n + 1) ≡ true
-  due_now n h =
-      ⊎_elim
-      (λ e. ap (λ b. b || eqb (n + 1) settings.rounds) (eq-eqb ((n + 1) % settings.every) 0 e))
-      (λ e. ap (λ b. eqb ((n + 1) % settings.every) 0 || b) (eq-eqb (n + 1) settings.rounds e.1) ∙ or-true (eqb ((n + 1) % settings.every) 0))
-      h
+  -- a round that `every` divides is evaluated
+  pub due_in_turn : (n : ℕ) → (n + 1) % settings.every ≡ 0 → is_due (n + 1) ≡ eqb ((n + 1) % settings.every) 0
+  due_in_turn n e =
+      let yes = eq-eqb ((n + 1) % settings.every) 0 e in
+      ap (λ b. b || eqb (n + 1) settings.rounds) yes ∙ sym yes
 
-  -- a round that `every` doesn't divide, and that isn't the last one, isn't evaluated
-  pub not_due : (n : ℕ) → ¬ ((n + 1) % settings.every ≡ 0) → ¬ (n + 1 ≡ settings.rounds) → is_due (n + 1) ≡ false
-  not_due n first last = λ i. ne_eqb ((n + 1) % settings.every) 0 first i || ne_eqb (n + 1) settings.rounds last i
+  -- and another one if it is the last
+  pub due_at_last : (n : ℕ) → ¬ ((n + 1) % settings.every ≡ 0) → is_due (n + 1) ≡ eqb (n + 1) settings.rounds
+  due_at_last n ne = ap (λ b. b || eqb (n + 1) settings.rounds) (ne_eqb ((n + 1) % settings.every) 0 ne)
+
+  -- behind a round that isn't evaluated there is another one
+  pub one_more : (n : ℕ) → n < settings.rounds → is_due (n + 1) ≡ false → n + 1 < settings.rounds
+  one_more n next none =
+      let ne : ¬ (n + 1 ≡ settings.rounds) = λ e. true≢false (sym (last e) ∙ none) in
+      omega (arith, next, ne)
+    where
+      last : n + 1 ≡ settings.rounds → is_due (n + 1) ≡ true
+      last e =
+          ap (λ b. eqb ((n + 1) % settings.every) 0 || b) (eq-eqb (n + 1) settings.rounds e) ∙ or-true (eqb ((n + 1) % settings.every) 0)
 
   nothing_more : {A : Type 0} (xs : List A) → xs ++ [] ≡ xs
   nothing_more [] = refl

@@ -82,7 +82,8 @@ next_standing variant form root n =
       sum_two = sum_with variant (n + 1) before.sum_two plan_two;
     }
 
-is_next : (variant : Variant) (form : SequenceForm) (root n : ℕ)
+-- it is the standing after one round more
+pub is_next : (variant : Variant) (form : SequenceForm) (root n : ℕ)
     → next_standing variant form root n ≡ rounds_of variant form root (n + 1)
 is_next Plain form root n =
     let count : suc n ≡ n + 1 = omega arith in

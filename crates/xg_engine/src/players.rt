@@ -1,23 +1,22 @@
 //! Both players from round to round.
-ghost use Rattle.std.specs.Prelude.{◌≡◌, ◌+◌, ◌*◌, ◌<◌, ◌≤◌, ℕ, List, IfOk, IsTrue, OnOk};
-ghost use Rattle.std.specs.Prelude.{length, pos, replicate, slice_index, unsigned_abs};
-ghost use Rattle.def_sums.specs.Limits.{most_root, most_rounds, most_scale, most_round_row};
-ghost use Rattle.def_sums.specs.Sum.{nat_sum_over};
+ghost use Rattle.std.specs.Prelude.{◌≡◌, ◌+◌, ◌*◌, ◌<◌, ◌≤◌, ℕ, IfOk, IsTrue, OnOk};
+ghost use Rattle.std.specs.Prelude.{false, length, pos, replicate, slice_index, true};
+ghost use Rattle.def_tree.specs.declared.Player.TheVariants.{One, Two};
+ghost use Rattle.def_sums.specs.Limits.{most_root};
 ghost use Rattle.def_plan.specs.Form.{player_sets, sequence_count};
-ghost use Rattle.def_plan.specs.Plan.{IsPlan, cleared};
-ghost use Rattle.def_plan.specs.FormRows.{player_rows};
-ghost use Rattle.def_round.specs.Play.{GivesAllUnits, plan_of_play, play_of};
-ghost use Rattle.def_round.specs.Round.{own_sum, regrets_after};
+ghost use Rattle.def_plan.specs.Plan.{cleared};
 ghost use Rattle.def_plus.specs.declared.Variant.{Variant};
 ghost use Rattle.def_plus.specs.Variants.{most_rounds_of, most_scale_of};
 ghost use Rattle.xg_jobs.specs.Rows.{ArePlainSums, HaveSmallRows};
 ghost use Rattle.xg_plan.specs.Plan.{AreOfOneForm};
-ghost use Rattle.xg_engine.specs.Players.{CanGrow, HasRoomForSequences, StandAfter, StandsWith};
+ghost use Rattle.xg_engine.specs.Players.{IsSoundForm, StandAfter, StandsWith};
 ghost use Rattle.xg_engine.specs.Players.{regrets_kept, sum_with, times_of};
 ghost use Rattle.xg_engine.specs.Sources.{CanMakeRows};
+ghost use Rattle.xg_engine.specs.Turns.{AreReady, CanLearn, CanPlan, CanTakeTurn};
+ghost use Rattle.xg_engine.specs.Turns.{HasLearnedFrom, HasPlanned, HasTakenTurn, plan_after};
 
 use crate::source::RowSource;
-use crate::turns::{learn_both, plan_both};
+use crate::turns::{Turn, take_turns};
 use def_plus::Variant;
 use std::alloc::{AllocError, Global};
 use std::sync::Wait;
@@ -36,12 +35,13 @@ pub(crate) struct Learner {
     pub(crate) sum: Plan,
 }
 
-/// Both players, with room for the rows of a round.
+/// Both players, with room for the rows of a round, and whether their sums have the plans of the next round already.
 #[derive(Drop)]
 pub(crate) struct Players {
     pub(crate) one: Learner,
     pub(crate) two: Learner,
     pub(crate) rows: SmallRows,
+    pub(crate) have_plans: bool,
 }
 
 impl Learner {
@@ -68,17 +68,8 @@ impl Learner {
         scale: u32,
         round: u64,
     )
-        requires room { HasRoomForSequences (player_sets form.now player) self.old }
-        requires some_scale { 1 ≤ scale }
-        requires small_scale { scale ≤ most_scale }
-        requires sums { CanGrow (player_sets form.now player) (times_of variant round * scale) self.old.sum }
-        ensures room { HasRoomForSequences (player_sets form.now player) self.new }
-        ensures play { self.new.play ≡ play_of (player_sets form.now player) self.old.regrets.of_sequences }
-        ensures all_units { GivesAllUnits self.new.play (player_sets form.now player) }
-        ensures plan { self.new.plan ≡ plan_of_play (player_sets form.now player) self.new.play scale }
-        ensures is_plan { IsPlan (player_sets form.now player) scale self.new.plan }
-        ensures sums { self.new.sum ≡ sum_with variant round self.old.sum self.new.plan }
-        ensures regrets { self.new.regrets ≡ self.old.regrets }
+        requires { CanPlan form.now player variant scale round self.old }
+        ensures { HasPlanned form.now player variant scale round self.old self.new }
     {
         play_into(form, player, &self.regrets, &mut self.play);
         from_play(form, player, &self.play, scale as u64, &mut self.plan);
@@ -87,20 +78,8 @@ impl Learner {
 
     /// Adds the regrets of a round, by the rows against the other player's plan, and in rounds of CFR+ cuts them.
     fn learn(&mut self, form: &SeqForm, player: Player, variant: Variant, rows: &[i128])
-        requires room { HasRoomForSequences (player_sets form.now player) self.old }
-        requires few_rounds { self.old.regrets.closed < most_rounds }
-        requires all_units { GivesAllUnits self.old.play (player_sets form.now player) }
-        requires rows { length rows.now ≡ sequence_count (player_sets form.now player) }
-        requires small { nat_sum_over unsigned_abs rows.now ≤ most_round_row }
-        ensures room { HasRoomForSequences (player_sets form.now player) self.new }
-        ensures regrets { (against : List ℕ) → rows.now ≡ player_rows form.now player against
-            → let sums = own_sum player form.now.leaves against in
-            let sets = player_sets form.now player in
-            self.new.regrets.of_sequences
-            ≡ regrets_kept variant (regrets_after sums self.old.play sets self.old.regrets.of_sequences) }
-        ensures closed { self.new.regrets.closed ≡ self.old.regrets.closed + 1 }
-        ensures sums { self.new.sum ≡ self.old.sum }
-        ensures plan { self.new.plan ≡ self.old.plan }
+        requires { CanLearn form.now player rows.now self.old }
+        ensures { HasLearnedFrom form.now player variant rows.now self.old self.new }
     {
         close_round(form, player, &mut self.regrets, &self.play, rows);
         cut_regrets(&mut self.regrets, variant);
@@ -114,61 +93,95 @@ impl Learner {
         variant: Variant,
         rows: &[i64],
     )
-        requires room { HasRoomForSequences (player_sets form.now player) self.old }
-        requires few_rounds { self.old.regrets.closed < most_rounds }
-        requires all_units { GivesAllUnits self.old.play (player_sets form.now player) }
-        requires rows { length rows.now ≡ sequence_count (player_sets form.now player) }
-        requires small { nat_sum_over unsigned_abs rows.now ≤ most_round_row }
-        ensures room { HasRoomForSequences (player_sets form.now player) self.new }
-        ensures regrets { (against : List ℕ) → rows.now ≡ player_rows form.now player against
-            → let sums = own_sum player form.now.leaves against in
-            let sets = player_sets form.now player in
-            self.new.regrets.of_sequences
-            ≡ regrets_kept variant (regrets_after sums self.old.play sets self.old.regrets.of_sequences) }
-        ensures closed { self.new.regrets.closed ≡ self.old.regrets.closed + 1 }
-        ensures sums { self.new.sum ≡ self.old.sum }
-        ensures plan { self.new.plan ≡ self.old.plan }
+        requires { CanLearn form.now player rows.now self.old }
+        ensures { HasLearnedFrom form.now player variant rows.now self.old self.new }
     {
         close_small_round(form, player, &mut self.regrets, &self.play, rows);
         cut_regrets(&mut self.regrets, variant);
+    }
+
+    /// Learns from the rows of a round, and if it goes on, plays the next one, too.
+    pub(crate) fn take_turn(&mut self, form: &SeqForm, player: Player, turn: Turn, rows: &[i64])
+        requires { CanTakeTurn form.now player turn rows.now self.old }
+        ensures { HasTakenTurn form.now player turn rows.now self.old self.new }
+    {
+        self.learn_small(form, player, turn.variant, rows);
+        if turn.goes_on {
+            self.plan_round(form, player, turn.variant, turn.scale, turn.next);
+        }
     }
 }
 
 impl Players {
     /// Both players before the first round.
     pub(crate) fn new(alloc: Global, form: &SeqForm) -> Result<Players, AllocError>
-        ensures { (variant : Variant) (scale : ℕ)
+        ensures stand { (variant : Variant) (scale : ℕ)
             → IfOk result (λ players. StandAfter variant form.now scale 0 players) }
+        ensures no_plans { IfOk result (λ players. players.have_plans ≡ false) }
     {
         Ok(Players {
             rows: SmallRows::new(alloc, form)?,
             one: Learner::new(alloc, form, Player::One)?,
             two: Learner::new(alloc, form, Player::Two)?,
+            have_plans: false,
         })
     }
 
+    // Both players play by their regrets as they stand, and add the plans of these plays to their sums, where they
+    // haven't done so yet.
+    fn make_plans(&mut self, form: &SeqForm, variant: Variant, scale: u32, so_far: u32)
+        requires form { IsSoundForm form.now }
+        requires some_scale { 1 ≤ scale }
+        requires small_scale { scale ≤ most_scale_of variant }
+        requires few_rounds { so_far < most_rounds_of variant }
+        requires ready { AreReady variant form.now scale so_far self.old.have_plans self.old }
+        ensures { AreReady variant form.now scale so_far true self.new }
+    {
+        if !self.have_plans {
+            let round = u64::from(so_far) + 1;
+            self.one
+                .plan_round(form, Player::One, variant, scale, round);
+            self.two
+                .plan_round(form, Player::Two, variant, scale, round);
+            self.have_plans = true;
+        }
+    }
+
     /// Plays a round: both plans are made from the regrets as they stand, and both players learn from these two plans.
+    /// If it goes on, the plans of the next round may be made, too.
     pub(crate) fn play_round<Rt: Threads + Wait + Sync, M: RowMaker>(
         &mut self,
         source: &RowSource<'_, Rt, M>,
         variant: Variant,
         scale: u32,
         so_far: u32,
+        goes_on: bool,
     ) -> Result<(), AllocError>
         requires source { CanMakeRows Rt.row M.RowMaker source.now }
         requires some_scale { 1 ≤ scale }
         requires small_scale { scale ≤ most_scale_of variant }
         requires few_rounds { so_far < most_rounds_of variant }
-        requires stand { StandAfter variant source.now.form.now scale so_far self.old }
-        ensures stand { OnOk result (StandAfter variant source.now.form.now scale (so_far + 1) self.new) }
-        ensures small { OnOk result (IsTrue (M.makes_small source.now.maker.now)
-            → HaveSmallRows source.now.form.now self.new.one.plan self.new.two.plan
-            → ArePlainSums source.now.form.now self.new.one.plan self.new.two.plan self.new.rows) }
+        requires few_more { IsTrue goes_on → so_far + 1 < most_rounds_of variant }
+        requires ready { AreReady variant source.now.form.now scale so_far self.old.have_plans self.old }
+        ensures ready { OnOk result
+            (AreReady variant source.now.form.now scale (so_far + 1) self.new.have_plans self.new) }
+        ensures stops { OnOk result (goes_on ≡ false → self.new.have_plans ≡ false) }
+        ensures small { let form = source.now.form.now in
+            let one = plan_after variant form One scale so_far in
+            let two = plan_after variant form Two scale so_far in
+            OnOk result (IsTrue (M.makes_small source.now.maker.now) → HaveSmallRows form one two
+            → ArePlainSums form one two self.new.rows) }
     {
-        let round = u64::from(so_far) + 1;
-        plan_both(source, variant, scale, round, &mut self.one, &mut self.two);
+        self.make_plans(source.form, variant, scale, so_far);
         if source.small_rows(&self.one.plan, &self.two.plan, &mut self.rows) {
-            learn_both(source, variant, &self.rows, &mut self.one, &mut self.two);
+            let turn = Turn {
+                variant,
+                scale,
+                next: u64::from(so_far) + 2,
+                goes_on,
+            };
+            take_turns(source, turn, &self.rows, &mut self.one, &mut self.two);
+            self.have_plans = goes_on;
             return Ok(());
         }
         let rows = source.rows(&self.one.plan, &self.two.plan)?;
@@ -176,6 +189,7 @@ impl Players {
             .learn(source.form, Player::One, variant, rows.one());
         self.two
             .learn(source.form, Player::Two, variant, rows.two());
+        self.have_plans = false;
         Ok(())
     }
 }

@@ -1,10 +1,13 @@
 //! A run over all rounds.
 ghost use Rattle.std.specs.Prelude.{◌≡◌, ◌+◌, ◌<◌, IfOk, OnOk, length};
 ghost use Rattle.def_reply.specs.Bracket.{evaluated_rounds};
+ghost use Rattle.def_reply.specs.Offers.{board_after};
 ghost use Rattle.def_run.specs.Run.{outcome_with};
 ghost use Rattle.def_plus.specs.Variants.{rounds_of};
 ghost use Rattle.def_plus_run.specs.VariantRun.{outcome_of};
 ghost use Rattle.xg_outcome.specs.Outcome.{head_of};
+ghost use Rattle.xg_engine.specs.Evaluations.{offers_upto};
+ghost use Rattle.xg_engine.specs.Players.{StandAfter};
 ghost use Rattle.xg_engine.specs.Runs.{IsAfter};
 ghost use Rattle.xg_engine.specs.Sources.{CanMakeRows};
 ghost use Rattle.xg_engine.specs.State.{AreWithinLimits, AreWithinLimitsOf, Asks};
@@ -54,7 +57,8 @@ impl Run {
         })
     }
 
-    /// Plays the next round, and evaluates the sums of plans where this round is an evaluated one.
+    /// Plays the next round, and evaluates the sums of plans where this round is an evaluated one. The plans of the
+    /// round after it are made ahead where these sums aren't asked for.
     fn step<Rt: Threads + Wait + Sync, M: RowMaker>(
         &mut self,
         source: &RowSource<'_, Rt, M>,
@@ -68,10 +72,11 @@ impl Run {
         requires run { IsAfter variant source.now.form.now settings so_far self.old }
         ensures { OnOk result (IsAfter variant source.now.form.now settings (so_far + 1) self.new) }
     {
-        self.players
-            .play_round(source, variant, settings.scale, so_far)?;
         let round = so_far + 1;
-        if round % settings.every == 0 || round == settings.rounds {
+        let is_evaluated = round % settings.every == 0 || round == settings.rounds;
+        self.players
+            .play_round(source, variant, settings.scale, so_far, !is_evaluated)?;
+        if is_evaluated {
             let players = &self.players;
             self.evaluator
                 .evaluate(source, round, &players.one.sum, &players.two.sum)?;
@@ -89,7 +94,10 @@ impl Run {
         requires source { CanMakeRows Rt.row M.RowMaker source.now }
         requires limits { AreWithinLimitsOf variant settings }
         requires run { IsAfter variant source.now.form.now settings 0 self.old }
-        ensures { OnOk result (IsAfter variant source.now.form.now settings settings.rounds self.new) }
+        ensures board { OnOk result (self.new.evaluator.board.board
+            ≡ board_after (offers_upto variant source.now.form.now settings settings.rounds)) }
+        ensures stand { OnOk result
+            (StandAfter variant source.now.form.now settings.scale settings.rounds self.new.players) }
     {
         for so_far in 0..settings.rounds {
             self.step(source, variant, settings, so_far)?;

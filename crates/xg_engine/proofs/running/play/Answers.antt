@@ -14,3 +14,9 @@ returns-in-Ok-clause-outcome g c =
     let asked = c.requires.head in
     c.finish.ensures.outcome ∙ ap (outcome_with head) c.in-Ok.ensures.board
     ∙ (λ i. outcome_with head (board_after (offers_in form (run_of variant form (sym asked.scale i)) (sym asked.every i) (sym asked.rounds i))))
+
+pub returns-in-Ok-clause-sum_one : goal.returns-in-Ok-clause-sum_one
+returns-in-Ok-clause-sum_one g c = c.finish.ensures.sum_one ∙ c.in-Ok.ensures.stand.one.sums_are
+
+pub returns-in-Ok-clause-sum_two : goal.returns-in-Ok-clause-sum_two
+returns-in-Ok-clause-sum_two g c = c.finish.ensures.sum_two ∙ c.in-Ok.ensures.stand.two.sums_are

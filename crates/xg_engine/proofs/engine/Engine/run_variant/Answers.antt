@@ -1,11 +1,11 @@
-use Rattle.std.proofs.Common.{rules, ◌≡◌, ◌≤◌, ◌∙◌, Option, Some, ap, subst}
+use Rattle.std.proofs.Common.{rules, ◌≡◌, ◌≤◌, ◌∙◌, Some, ap, subst}
 use Rattle.std.specs.Option.{option_map}
 use Rattle.def_fraction.specs.Fraction.{most}
 use Rattle.def_game_numbers.specs.WholeSums.{HasWholeSum}
 use Rattle.def_plus.specs.Variants.{rounds_of}
 use Rattle.def_plus_run.specs.VariantRun.{outcome_of}
 use Rattle.xg_engine.specs.Players.{IsSoundForm}
-use Rattle.xg_engine.specs.State.{EngineState, SumsOfPlans, head_with, sums_of}
+use Rattle.xg_engine.specs.State.{EngineState, head_with}
 use Rattle.xg_engine.specs.declared.running.FinishedRun.{FinishedRun}
 use Rattle.xg_engine.proofs.Left.{is_left}
 use Rattle.xg_engine.proofs.engine.Engine.run_variant.Goals as goal

@@ -1,74 +1,106 @@
-use Rattle.std.proofs.Common.{◌+◌, ◌∙◌, ap}
+use Rattle.std.proofs.Common.{◌+◌, ◌∙◌, arith, ap, false, refl, sym}
+use Rattle.std.proofs.lemmas.Bool.{true≢false}
 use Rattle.def_tree.specs.declared.Player.TheVariants.{One, Two}
-use Rattle.xg_engine.proofs.Growing.{scale_within}
-use Rattle.xg_reply.proofs.RowSizes.{count_of_rows, small_in_round}
-use Rattle.xg_engine.proofs.TurnsFollowRounds.{can_learn_one, can_learn_two, can_plan_one, can_plan_two, turns_lead_on}
+use Rattle.def_plan.specs.FormRows.{player_rows}
+use Rattle.xg_jobs.specs.Rows.{ArePlainSums, HaveSmallRows}
+use Rattle.xg_engine.specs.declared.players.Players.{Players}
+use Rattle.xg_engine.specs.Turns.{plan_after}
+use Rattle.xg_engine.proofs.TurnsFollowRounds.{can_go_on_one, can_go_on_two, can_learn_one, can_learn_two, of_plans, of_these_plans, ready, turns_lead_on, turns_make_ready}
 use Rattle.xg_engine.proofs.players.Players.play_round.Goals as goal
 
-pub plan_both-requires-clause-one : goal.plan_both-requires-clause-one
-plan_both-requires-clause-one g c κs within =
-    can_plan_one c.args.variant c.args.source.now.form.now c.args.scale c.args.so_far _ (ap (λ k. k + 1) c.from-round.ensures) c.args.self.now
-    c.requires.stand c.requires.source.form c.requires.some_scale c.requires.small_scale c.requires.few_rounds
-
-pub plan_both-requires-clause-two : goal.plan_both-requires-clause-two
-plan_both-requires-clause-two g c κs within =
-    can_plan_two c.args.variant c.args.source.now.form.now c.args.scale c.args.so_far _ (ap (λ k. k + 1) c.from-round.ensures) c.args.self.now
-    c.requires.stand c.requires.source.form c.requires.some_scale c.requires.small_scale c.requires.few_rounds
-
-pub learn_both-requires-clause-one : goal.learn_both-requires-clause-one
-learn_both-requires-clause-one g c κs within =
-    let rows = c.small_rows.ensures.sums c.if-small_rows.true in
-    can_learn_one c.args.variant c.args.source.now.form.now c.args.scale c.args.so_far _ (ap (λ k. k + 1) c.from-round.ensures) c.args.self.now
-    c.requires.stand (record { one = c.plan_both.new.one; two = c.plan_both.new.two; rows = c.small_rows.new.rows })
-    c.plan_both.ensures.one c.plan_both.ensures.two _ _ rows.one rows.two c.requires.source.form c.requires.small_scale c.requires.few_rounds
-
-pub learn_both-requires-clause-two : goal.learn_both-requires-clause-two
-learn_both-requires-clause-two g c κs within =
-    let rows = c.small_rows.ensures.sums c.if-small_rows.true in
-    can_learn_two c.args.variant c.args.source.now.form.now c.args.scale c.args.so_far _ (ap (λ k. k + 1) c.from-round.ensures) c.args.self.now
-    c.requires.stand (record { one = c.plan_both.new.one; two = c.plan_both.new.two; rows = c.small_rows.new.rows })
-    c.plan_both.ensures.one c.plan_both.ensures.two _ _ rows.one rows.two c.requires.source.form c.requires.small_scale c.requires.few_rounds
-
-pub returns-then-small_rows-clause-stand : goal.returns-then-small_rows-clause-stand
-returns-then-small_rows-clause-stand g c =
-    let rows = c.small_rows.ensures.sums c.if-small_rows.true in
-    turns_lead_on c.args.variant c.args.source.now.form.now c.args.scale c.args.so_far _ (ap (λ k. k + 1) c.from-round.ensures) c.args.self.now
-    c.requires.stand (record { one = c.plan_both.new.one; two = c.plan_both.new.two; rows = c.small_rows.new.rows })
-    c.plan_both.ensures.one c.plan_both.ensures.two _ _ rows.one rows.two
-    (record { one = c.learn_both.new.one; two = c.learn_both.new.two; rows = c.small_rows.new.rows })
-    c.learn_both.ensures.one c.learn_both.ensures.two
-    (c.small_rows.ensures.count_one ∙ c.requires.stand.rows_one) (c.small_rows.ensures.count_two ∙ c.requires.stand.rows_two)
-
-pub learn-requires-clause-rows : goal.learn-requires-clause-rows
-learn-requires-clause-rows g c =
-    count_of_rows c.args.source.now.form.now One c.plan_both.new.two.plan c.one.result.now (c.one.ensures ∙ c.in_ok-rows.ensures.one)
-
-pub learn-requires-clause-small : goal.learn-requires-clause-small
-learn-requires-clause-small g c =
+pub take_turns-requires-clause-one : goal.take_turns-requires-clause-one
+take_turns-requires-clause-one g c κs within =
+    let variant = c.args.variant in
     let form = c.args.source.now.form.now in
-    small_in_round form One c.plan_both.new.two.plan c.one.result.now (c.one.ensures ∙ c.in_ok-rows.ensures.one)
-    form.sets_two c.args.scale c.requires.source.form.order_two c.plan_both.ensures.two.is_plan c.requires.source.form.small_mass
-    (scale_within c.args.variant c.args.scale c.requires.small_scale)
+    let scale = c.args.scale in
+    let n = c.args.so_far in
+    let r = c.requires in
+    let between = c.make_plans.new.self in
+    let rows = c.small_rows.ensures.sums c.if-small_rows.true in
+    let next = ap (λ k. k + 2) c.from.ensures in
+    record {
+      learn = can_learn_one variant form scale n between c.make_plans.ensures r.source.form r.small_scale r.few_rounds _ _ rows.one rows.two;
+      plan = λ goes_on. can_go_on_one variant form scale n between c.make_plans.ensures r.source.form r.some_scale r.small_scale
+          (r.few_more goes_on) _ (omega (arith, next));
+    }
 
-pub learn-requires-2-clause-rows : goal.learn-requires-2-clause-rows
-learn-requires-2-clause-rows g c =
-    count_of_rows c.args.source.now.form.now Two c.plan_both.new.one.plan c.two.result.now (c.two.ensures ∙ c.in_ok-rows.ensures.two)
-
-pub learn-requires-2-clause-small : goal.learn-requires-2-clause-small
-learn-requires-2-clause-small g c =
+pub take_turns-requires-clause-two : goal.take_turns-requires-clause-two
+take_turns-requires-clause-two g c κs within =
+    let variant = c.args.variant in
     let form = c.args.source.now.form.now in
-    small_in_round form Two c.plan_both.new.one.plan c.two.result.now (c.two.ensures ∙ c.in_ok-rows.ensures.two)
-    form.sets_one c.args.scale c.requires.source.form.order_one c.plan_both.ensures.one.is_plan c.requires.source.form.small_mass
-    (scale_within c.args.variant c.args.scale c.requires.small_scale)
+    let scale = c.args.scale in
+    let n = c.args.so_far in
+    let r = c.requires in
+    let between = c.make_plans.new.self in
+    let rows = c.small_rows.ensures.sums c.if-small_rows.true in
+    let next = ap (λ k. k + 2) c.from.ensures in
+    record {
+      learn = can_learn_two variant form scale n between c.make_plans.ensures r.source.form r.small_scale r.few_rounds _ _ rows.one rows.two;
+      plan = λ goes_on. can_go_on_two variant form scale n between c.make_plans.ensures r.source.form r.some_scale r.small_scale
+          (r.few_more goes_on) _ (omega (arith, next));
+    }
 
-pub returns-clause-stand : goal.returns-clause-stand
-returns-clause-stand g c =
-    let one = c.learn.ensures in
-    let two = c.learn-2.ensures in
-    turns_lead_on c.args.variant c.args.source.now.form.now c.args.scale c.args.so_far _ (ap (λ k. k + 1) c.from-round.ensures) c.args.self.now
-    c.requires.stand (record { one = c.plan_both.new.one; two = c.plan_both.new.two; rows = c.small_rows.new.rows })
-    c.plan_both.ensures.one c.plan_both.ensures.two _ _ (c.one.ensures ∙ c.in_ok-rows.ensures.one) (c.two.ensures ∙ c.in_ok-rows.ensures.two)
-    (record { one = c.learn.new.self; two = c.learn-2.new.self; rows = c.small_rows.new.rows })
-    (record { room = one.room; regrets = one.regrets; closed = one.closed; sums = one.sums; plan = one.plan })
-    (record { room = two.room; regrets = two.regrets; closed = two.closed; sums = two.sums; plan = two.plan })
-    (c.small_rows.ensures.count_one ∙ c.requires.stand.rows_one) (c.small_rows.ensures.count_two ∙ c.requires.stand.rows_two)
+pub returns-then-small_rows-clause-ready : goal.returns-then-small_rows-clause-ready
+returns-then-small_rows-clause-ready g c =
+    let variant = c.args.variant in
+    let form = c.args.source.now.form.now in
+    let scale = c.args.scale in
+    let n = c.args.so_far in
+    let r = c.requires in
+    let between = c.make_plans.new.self in
+    let rows = c.small_rows.ensures.sums c.if-small_rows.true in
+    let next = ap (λ k. k + 2) c.from.ensures in
+    turns_make_ready variant form scale n between c.make_plans.ensures _ _ rows.one rows.two _ (omega (arith, next)) c.args.goes_on
+    (record { one = c.take_turns.new.one; two = c.take_turns.new.two; rows = c.small_rows.new.rows; have_plans = c.args.goes_on })
+    c.take_turns.ensures.one c.take_turns.ensures.two
+    (c.small_rows.ensures.count_one ∙ c.make_plans.ensures.rows_one) (c.small_rows.ensures.count_two ∙ c.make_plans.ensures.rows_two)
+
+pub returns-then-small_rows-clause-small : goal.returns-then-small_rows-clause-small
+returns-then-small_rows-clause-small g c made have =
+    of_plans c.args.variant c.args.source.now.form.now c.args.scale c.args.so_far c.make_plans.new.self c.make_plans.ensures
+    (λ one two. ArePlainSums c.args.source.now.form.now one two c.small_rows.new.rows) (c.small_rows.ensures.sums c.if-small_rows.true)
+
+pub learn-requires : goal.learn-requires
+learn-requires g c =
+    let variant = c.args.variant in
+    let form = c.args.source.now.form.now in
+    let scale = c.args.scale in
+    let n = c.args.so_far in
+    let r = c.requires in
+    let between = c.make_plans.new.self in
+    can_learn_one variant form scale n between c.make_plans.ensures r.source.form r.small_scale r.few_rounds _ _
+    (◌∙◌ {c = player_rows form One between.two.plan} c.one.ensures c.in_ok-rows.ensures.one) c.in_ok-rows.ensures.two
+
+pub learn-requires-2 : goal.learn-requires-2
+learn-requires-2 g c =
+    let variant = c.args.variant in
+    let form = c.args.source.now.form.now in
+    let scale = c.args.scale in
+    let n = c.args.so_far in
+    let r = c.requires in
+    let between = c.make_plans.new.self in
+    can_learn_two variant form scale n between c.make_plans.ensures r.source.form r.small_scale r.few_rounds _ _
+    c.in_ok-rows.ensures.one (◌∙◌ {c = player_rows form Two between.one.plan} c.two.ensures c.in_ok-rows.ensures.two)
+
+pub returns-clause-ready : goal.returns-clause-ready
+returns-clause-ready g c =
+    let variant = c.args.variant in
+    let form = c.args.source.now.form.now in
+    let scale = c.args.scale in
+    let n = c.args.so_far in
+    let r = c.requires in
+    let between = c.make_plans.new.self in
+    let after : Players = record { one = c.learn.new.self; two = c.learn-2.new.self; rows = c.small_rows.new.rows; have_plans = false } in
+    ready variant form scale (n + 1) after refl
+    (turns_lead_on variant form scale n between c.make_plans.ensures _ _ (◌∙◌ {c = player_rows form One between.two.plan} c.one.ensures c.in_ok-rows.ensures.one)
+    (◌∙◌ {c = player_rows form Two between.one.plan} c.two.ensures c.in_ok-rows.ensures.two) after c.learn.ensures c.learn-2.ensures
+    (c.small_rows.ensures.count_one ∙ c.make_plans.ensures.rows_one) (c.small_rows.ensures.count_two ∙ c.make_plans.ensures.rows_two))
+
+pub returns-clause-small : goal.returns-clause-small
+returns-clause-small g c made have =
+    let form = c.args.source.now.form.now in
+    let have_small =
+    of_these_plans c.args.variant form c.args.scale c.args.so_far c.make_plans.new.self c.make_plans.ensures (HaveSmallRows form) have in
+    let one = plan_after c.args.variant form One c.args.scale c.args.so_far in
+    let two = plan_after c.args.variant form Two c.args.scale c.args.so_far in
+    absurd {A = ArePlainSums form one two c.small_rows.new.rows} (true≢false (sym (c.small_rows.ensures.small.1 (made, have_small)) ∙ c.if-small_rows.false))
