@@ -1,3 +1,5 @@
+mod BatchTexts
 mod GatheredItems
 mod ItemsInOrder
+mod PlayedTexts
 mod SolvedItems

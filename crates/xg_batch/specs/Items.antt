@@ -2,17 +2,13 @@
 --     batch_entry_seen                    an entry, as the definitions have it
 --     IsItemOf settings entry item        the item of an entry, where this is asked
 --     AreItemsOf settings entries items   of each entry its item, in order
-use Rattle.std.specs.Prelude.{◌≡◌, ℕ, ◌≤◌, List, Some, None, Err, IfSome, IsOkAnd}
+use Rattle.std.specs.Prelude.{◌≡◌, ℕ, ◌≤◌, List, Some, Err, IfSome, IsOkAnd}
 use Rattle.std.specs.List.{AllZip}
-use Rattle.def_file.specs.Content.{GameFile}
 use Rattle.def_plan.specs.Weighed.{WeighedGame}
-use Rattle.def_game_numbers.specs.Numbers.{game_file_fault}
 use Rattle.def_game_numbers.specs.Weighed.{weighed_game}
 use Rattle.def_run.specs.Run.{outcome}
 use Rattle.def_batch.specs.Batch.{BatchEntry, Kept, Long, entry_bytes, item_of}
 use Rattle.def_cert_accepted.specs.Writable.{IsOutcomeOf}
-use Rattle.xg_game.specs.declared.fault.Refused.{Refused as Unread}
-use Rattle.xg_game.specs.declared.fault.Refused.TheVariants.{File, NoMemory}
 use Rattle.xg_engine.specs.State.{EngineState, head_with}
 use Rattle.def_command.specs.declared.Settings.{Settings}
 use Rattle.xg_batch.specs.declared.entry.Entry.{Entry}
@@ -44,18 +40,7 @@ IsItemOf settings entry (Refused fault) = item_of entry ≡ Err fault
 abbrev pub AreItemsOf : Settings → List Entry → List Item → Type 0
 AreItemsOf settings entries items = AllZip (λ entry item. IsItemOf settings (batch_entry_seen entry) item) entries items
 
--- ---- the same of a game that was read
-abbrev pub IsItemOfGame : Settings → GameFile → Item → Type 0
-IsItemOfGame settings game (Solved engine) = (game_file_fault game ≡ None)
-    × IsPlayedEngine settings (weighed_game game) engine
-IsItemOfGame settings game (Refused fault) = game_file_fault game ≡ Some fault
-
--- and of one in numbers
+-- the same of a game in numbers
 abbrev pub IsPlayedItem : Settings → WeighedGame → Item → Type 0
 IsPlayedItem settings game (Solved engine) = IsPlayedEngine settings game engine
 IsPlayedItem settings game (Refused fault) = ⊥
-
--- the item of a file that is refused with a fault
-abbrev pub IsRefusedItem : Unread → Item → Type 0
-IsRefusedItem (File fault) item = item ≡ Refused fault
-IsRefusedItem NoMemory item = ⊥

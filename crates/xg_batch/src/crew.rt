@@ -53,15 +53,7 @@ pub(crate) fn work_all<Rt: Threads + Wait + Sync, G: Gate>(
     );
 }
 
-/// Whether no worker wants memory.
-fn are_all_done(crew: &[Worker]) -> bool
-    ensures { IsTrue result → All (λ w. w.wants_memory ≡ false) crew.now }
-{
-    crew.iter().all(|worker| !worker.wants_memory)
-}
-
-/// The items of all files in order, once all workers are done.
-#[tactic(auto, using(crate::proofs::GatheredItems::shares_are_whole))]
+/// The items of all files in order, once all workers are done, unless one of them wants memory.
 pub(crate) fn gather(
     batch: &Batch<'_>,
     crew: &mut Vec<Worker>,
@@ -74,11 +66,13 @@ pub(crate) fn gather(
     requires room { length batch.now.entries.now ≤ vec_capacity items.old }
     ensures { OnOk result (AreItemsOf batch.now.settings batch.now.entries.now items.new.items) }
 {
-    if are_all_done(crew.as_slice()) {
-        gather_done(batch, crew, items);
-        return Ok(());
+    for worker in crew.as_slice() {
+        if worker.wants_memory {
+            return Err(AllocError);
+        }
     }
-    Err(AllocError)
+    gather_done(batch, crew, items);
+    Ok(())
 }
 
 /// Takes the items from the last file on, since each worker's last item is that of its last file.

@@ -1,5 +1,6 @@
 -- How a run ends: its exit status, the line that it says, and the ends where no text was written.
 use Rattle.std.specs.Prelude.{◌≡◌, ℕ, List, [], Result, Ok, Err, string_bytes}
+use Rattle.def_outside.specs.Calls.{SinkCall, HasFailedOnce, HasNoFault, Wrote, WroteFront, IsUntouched}
 use Rattle.def_program.specs.TextLines.{fault_line, memory_line, read_line, write_line}
 use Rattle.xg_load.specs.declared.ending.Ending.{Ending}
 use Rattle.xg_load.specs.declared.ending.Ending.TheVariants.{Done, Refused, ReadFault, WriteFault, NoMemory}
@@ -46,3 +47,11 @@ abbrev pub IsUnloaded : LoadFault → Ending → Type 0
 IsUnloaded (faults.Refused fault) ending = IsLineIfRoom (fault_line fault) ending
 IsUnloaded faults.ReadFault ending = ending ≡ ReadFault
 IsUnloaded faults.NoMemory ending = ending ≡ NoMemory
+
+-- the end of a run that writes a text: it was written or cut off, or memory ran out before
+abbrev pub Tells : List ℕ → SinkCall → Ending → Type 0
+Tells text out Done = HasNoFault out.faults × Wrote out text
+Tells text out WriteFault = HasFailedOnce out.faults × WroteFront out text
+Tells text out NoMemory = IsUntouched out
+Tells text out (Refused line) = ⊥
+Tells text out ReadFault = ⊥

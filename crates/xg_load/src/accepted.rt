@@ -64,6 +64,15 @@ impl AcceptedGame {
         engine
     }
 
+    /// The game in numbers, which are all that is kept of it.
+    pub fn into_numbers(self) -> Numbers
+        ensures { result ≡ weighed_game self }
+    {
+        let AcceptedGame { game, numbers } = self;
+        drop(game);
+        numbers
+    }
+
     /// The game, as its file has it.
     pub fn game(&self) -> &Game
         ensures { result.now ≡ self.now }

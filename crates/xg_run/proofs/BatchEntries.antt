@@ -19,7 +19,8 @@ use Rattle.xg_batch.specs.declared.entry.Entry.{Entry}
 use Rattle.xg_load.specs.declared.ending.Ending.{Ending}
 use Rattle.xg_load.specs.declared.ending.Ending.TheVariants.{Done, Refused, ReadFault, WriteFault, NoMemory}
 use Rattle.xg_run.specs.Batches.{HaveContents}
-use Rattle.xg_run.specs.Concludes.{Concludes, Tells}
+use Rattle.xg_load.specs.Endings.{Tells}
+use Rattle.xg_run.specs.Concludes.{Concludes}
 
 -- one file more is read
 pub one_more : (room : ℕ) (contents : List (Option (List ℕ))) (entries : List BatchEntry) (content : Option (List ℕ))

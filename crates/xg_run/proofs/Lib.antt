@@ -1,9 +1,7 @@
 pub mod Solved
 pub mod ExitStatusLaws
 pub mod WordsMeanTheirCommand
-pub mod Texts
 pub mod SettingsWithinLimits
 pub mod Checking
 pub mod MadeEnds
 pub mod BatchEntries
-pub mod BatchTexts

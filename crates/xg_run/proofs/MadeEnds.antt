@@ -1,22 +1,20 @@
 -- How a command ends that reads no file.
-use Rattle.std.proofs.Common.{◌≡◌, ℕ, ◌≤◌, List, Option, Some, Err, ◌∙◌, ap, subst}
+use Rattle.std.proofs.Common.{ℕ, ◌≤◌, List, Option, ◌∙◌, ap}
 use Rattle.def_sums.specs.Limits.{least_cards, most_cards}
 use Rattle.def_outside.specs.Calls.{FilesCall, SinkCall, HasNoFault}
 use Rattle.def_file.specs.declared.FileFault.{FileFault}
 use Rattle.def_file.specs.Content.{GameFile}
 use Rattle.def_canon.specs.Canon.{canon}
 use Rattle.def_canon.specs.Poker.{poker}
-use Rattle.def_game_numbers.specs.Numbers.{game_file_fault}
 use Rattle.def_poker.proofs.Faultless.{poker_has_no_fault}
 use Rattle.def_check.specs.Accepting.{unless_faulty}
 use Rattle.def_program.specs.Program.{Answer, game_answer, success}
 use Rattle.def_program.specs.Meaning.{FileMeans, MeansOnly}
 use Rattle.def_program.proofs.Meant.{made_computed}
-use Rattle.xg_game.specs.declared.fault.Refused.TheVariants.{File}
-use Rattle.xg_load.specs.Accepted.{Opens}
 use Rattle.xg_load.specs.declared.ending.Ending.{Ending}
 use Rattle.xg_load.specs.declared.ending.Ending.TheVariants.{Done, Refused, ReadFault, WriteFault, NoMemory}
-use Rattle.xg_run.specs.Concludes.{Concludes, Tells}
+use Rattle.xg_load.specs.Endings.{Tells}
+use Rattle.xg_run.specs.Concludes.{Concludes}
 
 module _ (meant : Answer → Type 0) (files : FilesCall) (out : SinkCall) (read : HasNoFault files.faults) where
   -- the text that is meant was written or cut off
@@ -38,11 +36,3 @@ module _ (cards : ℕ) (some : least_cards ≤ cards) (few : cards ≤ most_card
   poker_is_told text answer means =
       made_computed text cards some few answer means
       ∙ ap (λ (o : Option FileFault). game_answer text (unless_faulty o (poker cards))) (poker_has_no_fault cards some few)
-
-  -- and it is never refused
-  pub poker_is_opened : (game : GameFile) (fault : FileFault) → game ≡ poker cards → Opens game (Err (File fault)) → ⊥
-  poker_is_opened game fault is faulty =
-      let none = poker_has_no_fault cards some few in
-      let found : game_file_fault (poker cards) ≡ Some fault =
-      subst (λ (x : GameFile). game_file_fault x ≡ Some fault) is faulty in
-      cc

@@ -1,8 +1,6 @@
 -- How a command ends on the file that was loaded, whose content may be told.
 use Rattle.std.proofs.Common.{◌≡◌, ℕ, ◌<◌, List, Option, Some, None, Result, Ok, Err, refl, sym, ◌∙◌, ap, subst}
-use Rattle.std.specs.Prelude.{IfSome, IsSomeAnd, OnErr, OnOk}
-use Rattle.std.specs.Io.KnownBytes.{append_known}
-use Rattle.def_outside.specs.Sinks.{AppendsPrefix, Writes}
+use Rattle.std.specs.Prelude.{IfSome, IsSomeAnd}
 use Rattle.def_outside.specs.Calls.{FilesCall, SinkCall, HasNoFault, IsUntouched, HasFailedOnce, Wrote, WroteFront}
 use Rattle.def_file.specs.declared.FileFault.{FileFault}
 use Rattle.def_file.specs.declared.FileFault.TheVariants.{TooLong}
@@ -19,10 +17,8 @@ use Rattle.xg_load.specs.declared.loading.LoadFault.TheVariants as faults
 use Rattle.xg_load.specs.declared.ending.Ending.{Ending}
 use Rattle.xg_load.specs.declared.ending.Ending.TheVariants.{Done, Refused, ReadFault, WriteFault, NoMemory}
 use Rattle.xg_load.specs.Loads.{Loads, LoadHasCause}
-use Rattle.xg_load.specs.Endings.{IsLineIfRoom, IsUnloaded}
-use Rattle.def_outside.specs.Cause.{HasCause}
-use Rattle.xg_load.specs.Endings.{IsEndingOf}
-use Rattle.xg_run.specs.Concludes.{Concludes, FileTold, IsCut, IsDone, Tells}
+use Rattle.xg_load.specs.Endings.{IsLineIfRoom, IsUnloaded, Tells}
+use Rattle.xg_run.specs.Concludes.{Concludes, FileTold, IsCut, IsDone}
 
 module _ (text : GameFile → List ℕ) (content : Option (List ℕ)) where
   -- only the answer of what was loaded is meant
@@ -82,18 +78,3 @@ module _ (text : GameFile → List ℕ) (content : Option (List ℕ)) where
         (record { cause = cause; untouched = untouched })
     turned_down faults.NoMemory ending is loaded counted cause =
         subst (λ (e : Ending). Concludes ⊥ (FileTold text content) files out e) (sym is) untouched
-
--- a text was written, or a front of it
-pub tells : {T E : Type 0} (out : SinkCall) (text bytes : List ℕ) → bytes ≡ text → (r : Result T E) (ending : Ending)
-    → IsEndingOf r ending → Writes out.before out.now bytes r → HasCause out.faults.before out.faults.now r
-    → Tells text out ending
-tells out text bytes is (Ok _) ending done writes cause =
-    subst (λ (e : Ending). Tells text out e) (sym done) (cause, subst (Wrote out) is writes)
-tells out text bytes is (Err _) ending failed writes cause =
-    subst (λ (e : Ending). Tells text out e) (sym failed) (cause, subst (WroteFront out) is writes)
-
--- a writer's clauses say that it writes the text
-pub writes_of : {T E : Type 0} (before now : Option (List ℕ)) (text : List ℕ) (r : Result T E)
-    → OnOk r (now ≡ append_known before text) → OnErr r (AppendsPrefix before now text) → Writes before now text r
-writes_of before now text (Ok x) whole front = whole
-writes_of before now text (Err x) whole front = front

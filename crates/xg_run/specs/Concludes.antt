@@ -59,11 +59,3 @@ ConcludesWords checks meant files out None = IsUsage meant files out
 -- what a command that writes this text means of a file's content, where that is told
 abbrev pub FileTold : (GameFile → List ℕ) → Option (List ℕ) → Answer → Type 0
 FileTold text content answer = IsSomeAnd content (λ bytes. FileMeans text bytes answer)
-
--- the end of a run on an accepted game: the text was written or cut off, or memory ran out before
-abbrev pub Tells : List ℕ → SinkCall → Ending → Type 0
-Tells text out Done = HasNoFault out.faults × Wrote out text
-Tells text out WriteFault = HasFailedOnce out.faults × WroteFront out text
-Tells text out NoMemory = IsUntouched out
-Tells text out (Refused line) = ⊥
-Tells text out ReadFault = ⊥

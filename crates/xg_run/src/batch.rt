@@ -4,25 +4,23 @@ ghost use Rattle.def_sums.specs.Limits.{most_workers};
 ghost use Rattle.def_outside.specs.Calls.{OpensAtMost};
 ghost use Rattle.xg_io.specs.Calls.{files_call, sink_call};
 ghost use Rattle.def_file.specs.Reading.{most_bytes};
-ghost use Rattle.def_batch.specs.Batch.{batch_entry, batch_room, entry_bytes, item_of};
+ghost use Rattle.def_batch.specs.Batch.{batch_entry, batch_room, entry_bytes};
 ghost use Rattle.def_command.specs.Table.{most_files};
-ghost use Rattle.def_program.specs.BatchText.{parts_text};
 ghost use Rattle.def_program.specs.Meaning.{AllMean};
 ghost use Rattle.xg_engine.specs.State.{AreWithinLimits};
 ghost use Rattle.xg_batch.specs.Items.{HasAtMost, batch_entry_seen};
-ghost use Rattle.xg_run.specs.Batches.{BatchHasCause, CanBeShown, HaveContents, items_shown};
-ghost use Rattle.xg_run.specs.Concludes.{Concludes, Tells};
+ghost use Rattle.xg_run.specs.Batches.{BatchHasCause, HaveContents};
+ghost use Rattle.xg_run.specs.Concludes.{Concludes};
 
-use crate::batch_text::{BatchText, parts_of};
 use crate::ending::Ending;
 use def_batch::BATCH_ROOM;
 use std::alloc::Global;
 use std::marker::Sync;
 use std::sync::Wait;
 use std::thread::Threads;
-use xg_batch::{Entry, FileBytes, Item, solve_all};
+use xg_batch::{Entry, FileBytes, write_batch};
 use xg_engine::Settings;
-use xg_io::{Files, Gate, ReadAllFault, Sink, read_all, write_paged};
+use xg_io::{Files, Gate, ReadAllFault, Sink, read_all};
 
 /// Solves the games of several files side by side, and writes their texts in the order of the names.
 ///
@@ -49,7 +47,7 @@ pub fn batch<Rt: Threads + Wait + Sync, F: Files, O: Sink, G: Gate>(
 {
     match read_entries(alloc, files, names) {
         Ok(entries) => {
-            let ending = solve_entries(rt, alloc, &entries, settings, workers, out, gate);
+            let ending = write_batch(rt, alloc, &entries, settings, workers, out, gate);
             drop(entries);
             ending
         }
@@ -117,42 +115,4 @@ fn kept_bytes(entry: &Entry) -> usize
         Entry::Bytes(file) => file.bytes().len(),
         Entry::TooLong => 0,
     }
-}
-
-/// Solves the games of files that were read, and writes what becomes of each.
-fn solve_entries<Rt: Threads + Wait + Sync, O: Sink, G: Gate>(
-    rt: &Rt,
-    alloc: Global,
-    entries: &[Entry],
-    settings: Settings,
-    workers: u32,
-    out: &mut O,
-    gate: &G,
-) -> Ending
-    requires files { (1 ≤ length entries.now) × (length entries.now ≤ most_files) }
-    requires lengths { All (HasAtMost most_bytes) entries.now }
-    requires limits { AreWithinLimits settings }
-    requires workers { (1 ≤ workers) × (workers ≤ most_workers) }
-    ensures { Tells (parts_text settings 1 (map item_of (map batch_entry_seen entries.now)))
-        (sink_call O.Sink out.old out.new) result }
-{
-    let Ok(items) = solve_all(rt, alloc, entries, settings, workers, gate) else {
-        return Ending::NoMemory;
-    };
-    let ending = write_items(alloc, &items, out);
-    drop(items);
-    ending
-}
-
-/// Writes what became of the files.
-fn write_items<O: Sink>(alloc: Global, items: &[Item], out: &mut O) -> Ending
-    requires { All CanBeShown items.now }
-    ensures { Tells (items_shown 1 items.now) (sink_call O.Sink out.old out.new) result }
-{
-    let Ok(parts) = parts_of(alloc, items) else {
-        return Ending::NoMemory;
-    };
-    let written = write_paged(out, &BatchText { parts: &parts });
-    drop(parts);
-    Ending::of_written(written)
 }

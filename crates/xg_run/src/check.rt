@@ -16,13 +16,12 @@ ghost use Rattle.xg_run.specs.Concludes.{Concludes};
 ghost use Rattle.def_program_opens.specs.MayOpen.{IsNotTooLong};
 
 use crate::both::read_both;
-use crate::certificate::UpgradedText;
 use crate::check_lines::check_fault_line;
 use crate::ending::Ending;
 use std::alloc::Global;
-use xg_cert::put_ends_line;
+use xg_cert::{Cert, put_ends_line, write_upgraded};
 use xg_check::{Accepted, Verdict, accept};
-use xg_io::{Files, Sink, WriteFault, write_all, write_paged};
+use xg_io::{Files, Sink, Writable, WriteFault, write_all, write_paged};
 
 /// What is written of a certificate that is accepted.
 #[derive(Clone, Copy)]
@@ -31,6 +30,26 @@ enum Report {
     Verdict,
     /// Its text in the second version.
     Upgrade,
+}
+
+/// What a certificate says that was read, in the second version.
+#[derive(Clone, Copy)]
+struct UpgradedText<'a> {
+    cert: &'a Cert,
+}
+
+impl Writable for UpgradedText<'_> {
+    ghost use Rattle.def_cert_text.specs.CertText.{versioned_text};
+    ghost use Rattle.def_cert_versions.specs.Upgrade.{IsUpgradable};
+    ghost use Rattle.def_cert_versions.specs.Verdict.{upgraded};
+
+    ghost bytes = { λ t. versioned_text (upgraded t.cert.now) };
+
+    ghost can_write = { λ t. IsUpgradable t.cert.now };
+
+    fn write<O: Sink>(&self, out: &mut O) -> Result<(), WriteFault> {
+        write_upgraded(self.cert, out)
+    }
 }
 
 /// Checks a certificate against the game of a file, and writes its verdict.

@@ -1,10 +1,13 @@
 //! The top call.
-ghost use Rattle.std.specs.Prelude.{◌≡◌, ◌≢◌, ◌↔◌, ◌≤◌, IsNone, IsTrue, length};
+ghost use Rattle.std.specs.Prelude.{◌≡◌, ◌≢◌, ◌↔◌, ◌≤◌, IfSome, IsNone, IsTrue, length};
+ghost use Rattle.def_sums.specs.Limits.{least_cards, most_cards, most_workers};
 ghost use Rattle.def_outside.specs.Calls.{HasFailed, HasFailedOnce, MayHaveFailed, OpensAtMost, Wrote, WroteFront};
 ghost use Rattle.def_outside.specs.Calls.{WroteNothing};
 ghost use Rattle.xg_io.specs.Calls.{files_call, sink_call};
 ghost use Rattle.def_command.specs.Grammar.{command_of_words, named_files};
-ghost use Rattle.def_program.specs.Program.{played};
+ghost use Rattle.def_canon.specs.Poker.{poker};
+ghost use Rattle.def_plus.specs.declared.Variant.TheVariants.{Plain};
+ghost use Rattle.def_program.specs.Program.{played, solved};
 ghost use Rattle.def_program.specs.Text.{info_text};
 ghost use Rattle.xg_engine.specs.State.{AreWithinLimitsOf};
 ghost use Rattle.def_cert_accepted.specs.Bounds.{BoundsHold};
@@ -12,35 +15,25 @@ ghost use Rattle.def_program.specs.Bounds.{ForEachPlayed};
 ghost use Rattle.def_program.specs.Checked.{ForEachChecked};
 ghost use Rattle.def_program.specs.Lines.{IsCheck, SaysLine};
 ghost use Rattle.def_program.specs.Meaning.{EachMeant, EndsWith, Means};
-ghost use Rattle.xg_run.specs.Concludes.{Concludes, ConcludesWords, FileTold, Tells};
+ghost use Rattle.xg_load.specs.Endings.{Tells};
+ghost use Rattle.xg_run.specs.Concludes.{Concludes, ConcludesWords, FileTold};
 ghost use Rattle.def_program_opens.specs.MayOpen.{MayOpen};
 
 use crate::batch::batch;
 use crate::check::{check, upgrade};
 use crate::ending::{Ending, finish};
-use crate::made::{drill, generate};
-use crate::playing::play;
-use crate::rows::SharedRows;
-use crate::text::{info_front, write_info};
-use def_sums::MOST_SCALE;
 use std::alloc::Global;
 use std::marker::Sync;
 use std::sync::Wait;
 use std::thread::Threads;
-use xg_command::{Command, Words};
+use xg_batch::play;
+use xg_command::{Command, RowSettings, Words};
 use xg_engine::{Settings, Variant};
 use xg_io::{Files, Gate, Sink};
-use xg_load::{AcceptedGame, load};
+use xg_load::{accepted_poker, load, tell, write_poker};
 
 /// How many files of a batch are solved at once where no number of workers is given.
 const BATCH_WORKERS: u32 = 4;
-
-/// No rounds, at the greatest scale.
-const NO_ROUNDS: Settings = Settings {
-    rounds: 0,
-    every: 1,
-    scale: MOST_SCALE,
-};
 
 /// Solves the game of a file by rounds of this variant.
 fn solve<Rt: Threads + Wait + Sync, F: Files, O: Sink, G: Gate>(
@@ -49,18 +42,21 @@ fn solve<Rt: Threads + Wait + Sync, F: Files, O: Sink, G: Gate>(
     file: &str,
     variant: Variant,
     settings: Settings,
-    rows: &SharedRows<'_, G>,
+    rows: RowSettings,
     files: &mut F,
     out: &mut O,
+    gate: &G,
 ) -> Ending
     requires may_open { IsTrue (F.may_open files.old file.now) }
     requires limits { AreWithinLimitsOf variant settings }
+    requires some { IfSome rows.workers (λ number. 1 ≤ number) }
+    requires few { IfSome rows.workers (λ number. number ≤ most_workers) }
     ensures concludes { Concludes ⊥ (FileTold (played variant settings) (F.told files.old file.now))
         (files_call F.Files files.old files.new) (sink_call O.Sink out.old out.new) result }
     ensures opens { OpensAtMost (files_call F.Files files.old files.new) 1 }
 {
     match load(alloc, files, file) {
-        Ok(accepted) => play(rt, alloc, accepted, variant, settings, rows, out),
+        Ok(accepted) => play(rt, alloc, accepted, variant, settings, rows, out, gate),
         Err(fault) => Ending::of_unloaded(alloc, fault),
     }
 }
@@ -73,23 +69,41 @@ fn info<F: Files, O: Sink>(alloc: Global, file: &str, files: &mut F, out: &mut O
     ensures opens { OpensAtMost (files_call F.Files files.old files.new) 1 }
 {
     match load(alloc, files, file) {
-        Ok(accepted) => {
-            let ending = tell(alloc, &accepted, out);
-            drop(accepted);
-            ending
-        }
+        Ok(accepted) => tell(alloc, accepted, out),
         Err(fault) => Ending::of_unloaded(alloc, fault),
     }
 }
 
-/// Tells of an accepted game.
-fn tell<O: Sink>(alloc: Global, accepted: &AcceptedGame, out: &mut O) -> Ending
-    ensures { Tells (info_text accepted.now) (sink_call O.Sink out.old out.new) result }
+/// Solves one-card poker, which has no fault.
+fn drill<Rt: Threads + Wait + Sync, O: Sink, G: Gate>(
+    rt: &Rt,
+    alloc: Global,
+    cards: u32,
+    settings: Settings,
+    rows: RowSettings,
+    out: &mut O,
+    gate: &G,
+) -> Ending
+    requires low { least_cards ≤ cards }
+    requires high { cards ≤ most_cards }
+    requires limits { AreWithinLimitsOf Plain settings }
+    requires some { IfSome rows.workers (λ number. 1 ≤ number) }
+    requires few { IfSome rows.workers (λ number. number ≤ most_workers) }
+    ensures { Tells (solved settings (poker cards)) (sink_call O.Sink out.old out.new) result }
 {
-    let Ok(front) = info_front(alloc, accepted.game()) else {
-        return Ending::NoMemory;
-    };
-    Ending::of_written(write_info(&front, &accepted.head(NO_ROUNDS), out))
+    match accepted_poker(alloc, cards) {
+        Ok(accepted) => play(
+            rt,
+            alloc,
+            accepted,
+            Variant::Plain,
+            settings,
+            rows,
+            out,
+            gate,
+        ),
+        Err(_) => Ending::NoMemory,
+    }
 }
 
 /// Does what the words say, and says nothing of it, unless they name no command.
@@ -114,20 +128,34 @@ fn conclude<Rt: Threads + Wait + Sync, F: Files, O: Sink, G: Gate>(
                 settings,
                 rows,
             },
-        ) => {
-            let rows = SharedRows::of(rows, gate);
-            Some(solve(rt, alloc, file, Variant::Plain, settings, &rows, files, out))
-        }
+        ) => Some(solve(
+            rt,
+            alloc,
+            file,
+            Variant::Plain,
+            settings,
+            rows,
+            files,
+            out,
+            gate,
+        )),
         Some(
             Command::Plus {
                 file,
                 settings,
                 rows,
             },
-        ) => {
-            let rows = SharedRows::of(rows, gate);
-            Some(solve(rt, alloc, file, Variant::Plus, settings, &rows, files, out))
-        }
+        ) => Some(solve(
+            rt,
+            alloc,
+            file,
+            Variant::Plus,
+            settings,
+            rows,
+            files,
+            out,
+            gate,
+        )),
         Some(Command::Check { file, certificate }) => {
             Some(check(alloc, file, certificate, files, out))
         }
@@ -145,17 +173,14 @@ fn conclude<Rt: Threads + Wait + Sync, F: Files, O: Sink, G: Gate>(
             Some(batch(rt, alloc, &names, settings, workers, files, out, gate))
         }
         Some(Command::Info { file }) => Some(info(alloc, file, files, out)),
-        Some(Command::Gen { cards }) => Some(generate(alloc, cards, out)),
+        Some(Command::Gen { cards }) => Some(write_poker(alloc, cards, out)),
         Some(
             Command::Drill {
                 cards,
                 settings,
                 rows,
             },
-        ) => {
-            let rows = SharedRows::of(rows, gate);
-            Some(drill(rt, alloc, cards, settings, &rows, out))
-        }
+        ) => Some(drill(rt, alloc, cards, settings, rows, out, gate)),
         None => None,
     }
 }

@@ -4,18 +4,17 @@ use Rattle.std.specs.Borrow.{Bor}
 use Rattle.def_sums.specs.Limits.{most_workers}
 use Rattle.def_outside.specs.Calls.{FilesCall, SinkCall}
 use Rattle.xg_io.specs.Calls.{files_call, sink_call}
-use Rattle.def_plus.specs.declared.Variant.TheVariants as variants
 use Rattle.def_command.specs.Grammar as grammar
 use Rattle.def_command.proofs.InRange.{cards_in_range}
 use Rattle.def_file.specs.Content.{GameFile}
 use Rattle.def_canon.specs.Canon.{canon}
-use Rattle.def_program.specs.Program.{played, solved}
+use Rattle.def_program.specs.Program.{solved}
 use Rattle.def_program.specs.Meaning.{AllMean, FileMeans}
 use Rattle.xg_command.specs.declared.command.Command.{Command}
 use Rattle.xg_command.specs.Values.{command_value}
 use Rattle.def_canon.specs.Poker.{poker}
 use Rattle.xg_command.specs.Plain.{plain_value}
-use Rattle.xg_run.specs.Concludes.{Concludes, FileTold, Tells}
+use Rattle.xg_run.specs.Concludes.{Concludes}
 use Rattle.def_program_opens.specs.MayOpen.{MayOpen}
 use Rattle.xg_run.proofs.MadeEnds.{poker_is_told, text_told}
 use Rattle.xg_run.proofs.SettingsWithinLimits.{solve_within, batch_within, batch_workers_within, drill_within, drill_workers_within, plus_within}
@@ -23,38 +22,38 @@ use Rattle.xg_run.proofs.SettingsWithinLimits.{plus_workers_within, workers_with
 use Rattle.xg_run.proofs.WordsMeanTheirCommand.{by_command, of_each_name, opens_named, told_of_names}
 use Rattle.xg_run.proofs.program.conclude.Goals as goal
 
-pub of-rows-requires-clause-some : goal.of-rows-requires-clause-some
-of-rows-requires-clause-some g c κs at =
+pub solve-requires-clause-some : goal.solve-requires-clause-some
+solve-requires-clause-some g c κs at =
     let arm = c.in-Some-Solve in
     (workers_within c.args.words.now arm.file.now arm.settings arm.rows
     (sym arm.ensures ∙ ap (λ (command : Command). Some (command_value command)) arm.field-0-is)).0
 
-pub of-rows-requires-clause-few : goal.of-rows-requires-clause-few
-of-rows-requires-clause-few g c κs at =
+pub solve-requires-clause-few : goal.solve-requires-clause-few
+solve-requires-clause-few g c κs at =
     let arm = c.in-Some-Solve in
     (workers_within c.args.words.now arm.file.now arm.settings arm.rows
     (sym arm.ensures ∙ ap (λ (command : Command). Some (command_value command)) arm.field-0-is)).1
 
-pub of-rows-requires-in-Some-Plus-clause-some : goal.of-rows-requires-in-Some-Plus-clause-some
-of-rows-requires-in-Some-Plus-clause-some g c κs at =
+pub solve-requires-in-Some-Plus-clause-some : goal.solve-requires-in-Some-Plus-clause-some
+solve-requires-in-Some-Plus-clause-some g c κs at =
     let arm = c.in-Some-Plus in
     (plus_workers_within c.args.words.now arm.file.now arm.settings arm.rows
     (sym arm.ensures ∙ ap (λ (command : Command). Some (command_value command)) arm.field-0-is)).0
 
-pub of-rows-requires-in-Some-Plus-clause-few : goal.of-rows-requires-in-Some-Plus-clause-few
-of-rows-requires-in-Some-Plus-clause-few g c κs at =
+pub solve-requires-in-Some-Plus-clause-few : goal.solve-requires-in-Some-Plus-clause-few
+solve-requires-in-Some-Plus-clause-few g c κs at =
     let arm = c.in-Some-Plus in
     (plus_workers_within c.args.words.now arm.file.now arm.settings arm.rows
     (sym arm.ensures ∙ ap (λ (command : Command). Some (command_value command)) arm.field-0-is)).1
 
-pub of-rows-requires-in-Some-Drill-clause-some : goal.of-rows-requires-in-Some-Drill-clause-some
-of-rows-requires-in-Some-Drill-clause-some g c κs at =
+pub drill-requires-clause-some : goal.drill-requires-clause-some
+drill-requires-clause-some g c κs at =
     let arm = c.in-Some-Drill in
     (drill_workers_within c.args.words.now arm.cards arm.settings arm.rows
     (sym arm.ensures ∙ ap (λ (command : Command). Some (command_value command)) arm.field-0-is)).0
 
-pub of-rows-requires-in-Some-Drill-clause-few : goal.of-rows-requires-in-Some-Drill-clause-few
-of-rows-requires-in-Some-Drill-clause-few g c κs at =
+pub drill-requires-clause-few : goal.drill-requires-clause-few
+drill-requires-clause-few g c κs at =
     let arm = c.in-Some-Drill in
     (drill_workers_within c.args.words.now arm.cards arm.settings arm.rows
     (sym arm.ensures ∙ ap (λ (command : Command). Some (command_value command)) arm.field-0-is)).1

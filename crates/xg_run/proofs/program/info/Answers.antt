@@ -8,8 +8,8 @@ pub returns-in-Ok-clause-concludes : goal.returns-in-Ok-clause-concludes
 returns-in-Ok-clause-concludes g c =
     ended info_text (g.F.Files.told c.args.files.now c.args.file.now)
     (files_call g.F.Files c.args.files.now c.load.new.files)
-    (sink_call g.O.Sink c.args.out.now c.tell-ending.new.out)
-    c.in-Ok.ensures.cause c.in-Ok.accepted c.in-Ok.ensures.exact (info_text c.in-Ok.accepted) refl c.tell-ending.result c.tell-ending.ensures
+    (sink_call g.O.Sink c.args.out.now c.tell.new.out)
+    c.in-Ok.ensures.cause c.in-Ok.accepted c.in-Ok.ensures.exact (info_text c.in-Ok.accepted) refl c.tell.result c.tell.ensures
 
 pub returns-in-Err-clause-concludes : goal.returns-in-Err-clause-concludes
 returns-in-Err-clause-concludes g c =
