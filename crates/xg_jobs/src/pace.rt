@@ -1,12 +1,20 @@
 //! When threads are started.
 
-/// How often work is done by one thread for each time that several are started for it: the more often, the more often
-/// threads were late, which they are where processors are busy.
+/// Threads are started for work as long as punctual ones have saved what a late one costs. Behind a late one that
+/// wasn't paid for work is done by one thread for some time: the longer, the more often that was so, as it is where
+/// processors are busy.
 #[derive(Clone, Copy)]
 pub(crate) struct Pace {
+    saved: u32,
     pause: u32,
     left: u32,
 }
+
+/// How many punctual starts save what a late one costs.
+const PRICE: u32 = 12;
+
+/// How many punctual starts are saved up at the most. As many let earlier ones be forgotten that were late.
+const MOST_SAVED: u32 = 24;
 
 /// The longest pause between two starts of threads.
 const LONGEST_PAUSE: u32 = 255;
@@ -14,7 +22,11 @@ const LONGEST_PAUSE: u32 = 255;
 impl Pace {
     /// Threads are started at once, of which nothing is known yet.
     pub(crate) fn new() -> Pace {
-        Pace { pause: 1, left: 0 }
+        Pace {
+            saved: 0,
+            pause: 0,
+            left: 0,
+        }
     }
 
     /// Whether threads are to be started this time.
@@ -26,18 +38,23 @@ impl Pace {
         false
     }
 
-    /// Whether threads were punctual when they were last started, and are started each time.
+    /// Whether threads were punctual since any that weren't paid for.
     pub(crate) fn is_unbroken(&self) -> bool {
-        self.pause == 0
+        self.pause == 0 && self.saved > 0
     }
 
     /// Sets the pause behind a start, by whether all threads had ended when they were looked for.
     pub(crate) fn note(&mut self, punctual: bool) {
-        self.pause = if punctual {
-            self.pause / 2
+        if punctual && self.saved < MOST_SAVED {
+            self.saved += 1;
+        } else if punctual {
+            self.pause = 0;
+        } else if self.saved >= PRICE {
+            self.saved -= PRICE;
         } else {
-            self.pause.min(LONGEST_PAUSE / 4) * 4 + 3
-        };
-        self.left = self.pause;
+            self.saved = 0;
+            self.pause = self.pause.min(LONGEST_PAUSE / 4) * 4 + 3;
+            self.left = self.pause;
+        }
     }
 }
