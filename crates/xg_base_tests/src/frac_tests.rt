@@ -8,7 +8,8 @@ use xg_frac::{
     Frac, NumberFault, OverLimit, Ratio, add, compare, lcm, mul, one_over, put_frac, put_int,
     put_ratio, ratio, read_literal, read_whole, whole,
 };
-use xg_io::{MemSink, WriteFault};
+use xg_io::WriteFault;
+use xg_memory::MemSink;
 
 /// A literal with the parts of its value in lowest terms.
 type ReadLiteral = (&'static str, i128, i128);

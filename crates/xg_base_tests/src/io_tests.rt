@@ -8,9 +8,10 @@ use std::process::Abort;
 use std::test::Fail;
 use std::{env, fs};
 use xg_io::{
-    Failed, Files, MemFiles, MemSink, OpenFault, OpenGate, ReadAllFault, RealFiles, RealSink,
-    SureFiles, SureSink, WriteFault, read_all, write_all,
+    Failed, Files, OpenFault, OpenGate, ReadAllFault, RealFiles, RealSink, WriteFault, read_all,
+    write_all,
 };
+use xg_memory::{MemFiles, MemSink, SureFiles, SureSink};
 
 /// Two files, of which the calls listed fail.
 fn two_files(alloc: Global, failing: &[u64]) -> Result<MemFiles, Fail> {

@@ -3,7 +3,8 @@ ghost use Rattle.std.specs.Prelude.{◌<◌};
 
 use std::alloc::Global;
 use std::test::Fail;
-use xg_io::{Failed, MemSink, Sink, Writable, WriteFault, write_paged};
+use xg_io::{Failed, Sink, Writable, WriteFault, write_paged};
+use xg_memory::MemSink;
 
 /// How much a sink took, and in how many pieces.
 #[derive(Drop)]

@@ -4,11 +4,10 @@ ghost use Rattle.def_cert_accepted.specs.Writable.{IsOutcomeOf};
 ghost use Rattle.xg_batch.specs.Texts.{left_text};
 ghost use Rattle.xg_load.specs.Endings.{Tells};
 
-use xg_cert::{Outcome, write_cert};
+use xg_cert::{Outcome, write_cert, write_plus};
 use xg_engine::Variant;
 use xg_io::{Sink, Writable, WriteFault, write_paged};
 use xg_load::Ending;
-use xg_plus::write_plus;
 use xg_seq::SeqForm;
 
 /// What rounds of a variant left: the certificate of the outcome, or the text of CFR+.

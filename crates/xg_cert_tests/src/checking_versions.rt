@@ -6,7 +6,7 @@ use std::test::Fail;
 use xg_cert::write_upgraded;
 use xg_check::{CheckFault, MOST_CERT_BYTES, Verdict, Which, accept};
 use xg_frac::ratio;
-use xg_io::MemSink;
+use xg_memory::MemSink;
 use xg_read::MOST_BYTES;
 use xg_test_data::{certificates, files};
 

@@ -12,7 +12,7 @@ use std::test::Fail;
 use xg_cert::{CertFault, End, Head, Outcome, TraceRow, write_plus};
 use xg_closer::{Regrets, play_into};
 use xg_frac::zero;
-use xg_io::MemSink;
+use xg_memory::MemSink;
 use xg_numbers::Numbers;
 use xg_plan::{Plan, Play, Reply, from_play};
 use xg_read::{MOST_BYTES, read_game};

@@ -4,7 +4,8 @@ use std::marker::{Send, Sync};
 use std::test::Fail;
 use xg_cert::{Cert, Head, Outcome, write_head};
 use xg_frac::{Frac, read_literal};
-use xg_io::{MemSink, WriteFault};
+use xg_io::WriteFault;
+use xg_memory::MemSink;
 
 /// A head with this sum.
 fn head(sum: Frac) -> Head {

@@ -5,7 +5,8 @@ use std::process::Abort;
 use std::test::Fail;
 use xg_game::{Game, GameMaker};
 use xg_gen::{one_card_poker, write_game};
-use xg_io::{MemSink, WriteFault};
+use xg_io::WriteFault;
+use xg_memory::MemSink;
 use xg_record::{EntryKind, Payoffs, Record};
 use xg_test_data::files::POKER_OF_TWO;
 

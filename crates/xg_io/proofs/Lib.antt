@@ -1,5 +1,4 @@
 pub mod KnownBytesInPieces
 pub mod Pieces
-pub mod FilesInMemory
 pub mod ResultCases
 pub mod Pages

@@ -1,9 +1,3 @@
 pub mod Cause
-pub mod Schedule
-pub mod Stored
-pub mod MemFiles
-pub mod MemSink
-pub mod SureFiles
-pub mod SureSink
 pub mod Waiting
 pub mod Calls

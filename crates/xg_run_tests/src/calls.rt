@@ -1,6 +1,6 @@
 //! Calls of the program on files and streams in memory.
 use std::alloc::{AllocError, Global};
-use xg_io::MemFiles;
+use xg_memory::MemFiles;
 use xg_run::Words;
 
 /// The files, with one of this name. The call with the number `failing` fails.

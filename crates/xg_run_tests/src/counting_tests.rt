@@ -6,7 +6,8 @@ use std::marker::Sync;
 use std::sync::Wait;
 use std::test::Fail;
 use std::thread::Threads;
-use xg_io::{MemFiles, MemSink, OpenGate};
+use xg_io::OpenGate;
+use xg_memory::{MemFiles, MemSink};
 use xg_run::run;
 use xg_test_data::{certificates, files};
 

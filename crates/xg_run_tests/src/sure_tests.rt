@@ -7,7 +7,8 @@ use std::marker::Sync;
 use std::sync::Wait;
 use std::test::Fail;
 use std::thread::Threads;
-use xg_io::{MemSink, OpenGate, SureFiles, SureSink};
+use xg_io::OpenGate;
+use xg_memory::{MemSink, SureFiles, SureSink};
 use xg_run::{Words, run};
 
 /// Player one forgets at node 3 that they went on.

@@ -8,7 +8,8 @@ use std::sync::Wait;
 use std::test::Fail;
 use std::thread::Threads;
 use std::{env, io};
-use xg_io::{MemSink, OpenGate};
+use xg_io::OpenGate;
+use xg_memory::MemSink;
 use xg_run::{Words, given_words, run, status_without_words};
 use xg_test_data::files::ONE_LEAF;
 

@@ -7,8 +7,8 @@ ghost use Rattle.def_outside.specs.Cause.{HasCause, next_count};
 ghost use Rattle.xg_io.specs.Cause.{OpenHasCause};
 
 use crate::stored::{Stored, bytes_at, copy_front, from_place, place_of, store};
-use crate::{Failed, Files, OpenFault};
 use std::alloc::{AllocError, Global};
+use xg_io::{Failed, Files, OpenFault};
 
 /// Files in memory that never fail, for tests: a name that they don't hold opens as an empty file. They tell what is
 /// left.
@@ -21,7 +21,7 @@ pub struct SureFiles {
 }
 
 impl SureFiles {
-    ghost use Rattle.xg_io.specs.SureFiles.{sure_told_of, sure_current_of, sure_taken_of, sure_opens_of};
+    ghost use Rattle.xg_memory.specs.SureFiles.{sure_told_of, sure_current_of, sure_taken_of, sure_opens_of};
     ghost use Rattle.std.specs.Prelude.{[]};
 
     /// Holds no files.
@@ -58,7 +58,7 @@ impl SureFiles {
 }
 
 impl Files for SureFiles {
-    ghost use Rattle.xg_io.specs.SureFiles.{sure_told_of, sure_current_of, sure_left_of, sure_taken_of, sure_opens_of};
+    ghost use Rattle.xg_memory.specs.SureFiles.{sure_told_of, sure_current_of, sure_left_of, sure_taken_of, sure_opens_of};
 
     ghost told = { sure_told_of };
 

@@ -3,11 +3,11 @@ ghost use Rattle.std.specs.Prelude.{◌≡◌, ◌-◌, ◌<◌, ◌≤◌, ◌�
 ghost use Rattle.std.specs.Prelude.{IfOk, OnOk, OnErr, IsErr};
 ghost use Rattle.std.specs.Io.KnownBytes.{append_known};
 ghost use Rattle.def_outside.specs.Cause.{HasCause, next_count};
-ghost use Rattle.xg_io.specs.Schedule.{failing_calls, calls_made, FailsNext};
+ghost use Rattle.xg_memory.specs.Schedule.{failing_calls, calls_made, FailsNext};
 
 use crate::schedule::Schedule;
-use crate::{Failed, Sink};
 use std::alloc::{AllocError, Global};
+use xg_io::{Failed, Sink};
 
 /// A sink in memory, for tests. Its writes are numbered from 1, and those listed fail; a write fails too where the
 /// room is full, and a piece larger than the room is taken in part. It tells what is written.
@@ -22,7 +22,7 @@ pub struct MemSink {
 }
 
 impl MemSink {
-    ghost use Rattle.xg_io.specs.MemSink.{bytes_of_sink, room_of, schedule_of_sink, faults_of_sink, failed_length_of};
+    ghost use Rattle.xg_memory.specs.MemSink.{bytes_of_sink, room_of, schedule_of_sink, faults_of_sink, failed_length_of};
 
     /// Room for `capacity` bytes. The writes whose numbers are listed in `failing` fail.
     pub fn new(alloc: Global, capacity: usize, failing: &[u64]) -> Result<MemSink, AllocError>
@@ -49,7 +49,7 @@ impl MemSink {
 }
 
 impl Sink for MemSink {
-    ghost use Rattle.xg_io.specs.MemSink.{bytes_of_sink, room_of, schedule_of_sink, faults_of_sink, failed_length_of};
+    ghost use Rattle.xg_memory.specs.MemSink.{bytes_of_sink, room_of, schedule_of_sink, faults_of_sink, failed_length_of};
 
     ghost written = { λ m. Some (bytes_of_sink m) };
 

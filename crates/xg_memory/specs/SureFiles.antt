@@ -1,8 +1,8 @@
 -- What files in memory tell that never fail: a name that they don't hold is an empty file.
 use Rattle.std.specs.Prelude.{ℕ, List, drop, Option, Some}
 use Rattle.std.specs.Option.{option_and_then}
-use Rattle.xg_io.specs.declared.sure_files.SureFiles.{SureFiles}
-use Rattle.xg_io.specs.Stored.{sure_bytes_of, sure_bytes_at}
+use Rattle.xg_memory.specs.declared.sure_files.SureFiles.{SureFiles}
+use Rattle.xg_memory.specs.Stored.{sure_bytes_of, sure_bytes_at}
 
 -- the bytes of a name
 abbrev pub sure_told_of : SureFiles → List ℕ → Option (List ℕ)

@@ -2,7 +2,7 @@
 ghost use Rattle.std.specs.Prelude.{◌≡◌, ◌+◌, ◌-◌, ◌^◌, ◌<◌, ◌≤◌, None, length, min, IfOk, OnErr, IsOk};
 ghost use Rattle.def_outside.specs.Cause.{HasCause};
 
-use crate::{Failed, Sink};
+use xg_io::{Failed, Sink};
 
 /// A sink that takes everything and never fails, for tests. It keeps the number of bytes alone, and tells nothing of
 /// what they are.
@@ -12,7 +12,7 @@ pub struct SureSink {
 }
 
 impl SureSink {
-    ghost use Rattle.xg_io.specs.SureSink.{count_of_sink};
+    ghost use Rattle.xg_memory.specs.SureSink.{count_of_sink};
 
     /// A sink that took nothing yet.
     pub fn new() -> SureSink
@@ -30,7 +30,7 @@ impl SureSink {
 }
 
 impl Sink for SureSink {
-    ghost use Rattle.xg_io.specs.SureSink.{count_of_sink};
+    ghost use Rattle.xg_memory.specs.SureSink.{count_of_sink};
 
     ghost written = { λ _. None };
 

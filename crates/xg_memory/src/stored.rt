@@ -2,7 +2,7 @@
 ghost use Rattle.std.specs.Prelude.{◌≡◌, ◌≢◌, ℕ, ◌<◌, List, [], Some, None, length, take, drop, min, position, nat_eq};
 ghost use Rattle.std.specs.Prelude.{IfSome, IfNone, OnOk, OnErr};
 ghost use Rattle.std.specs.Cmp.Lexicographic.{pointwise};
-ghost use Rattle.xg_io.specs.Stored.{stored_bytes_of, stored_bytes_at, sure_bytes_of, sure_bytes_at};
+ghost use Rattle.xg_memory.specs.Stored.{stored_bytes_of, stored_bytes_at, sure_bytes_of, sure_bytes_at};
 
 use std::alloc::AllocError;
 

@@ -1,6 +1,6 @@
 -- Which calls of an object in memory fail: those whose numbers are listed. Calls are numbered from 1.
 use Rattle.std.specs.Prelude.{ℕ, List, Contains}
-use Rattle.xg_io.specs.declared.schedule.Schedule.{Schedule}
+use Rattle.xg_memory.specs.declared.schedule.Schedule.{Schedule}
 use Rattle.def_outside.specs.Cause.{next_count}
 
 -- the numbers of the calls that fail

@@ -2,8 +2,8 @@
 ghost use Rattle.std.specs.Prelude.{◌≡◌, ◌↔◌, IfOk, IsErr};
 ghost use Rattle.def_outside.specs.Cause.{HasCause, RoseByOne, next_count};
 
-use crate::Failed;
 use std::alloc::{AllocError, Global};
+use xg_io::Failed;
 
 /// Counts the calls of an object, lets those fail whose numbers are listed, and counts the faults.
 #[derive(Drop)]
@@ -14,7 +14,7 @@ pub struct Schedule {
 }
 
 impl Schedule {
-    ghost use Rattle.xg_io.specs.Schedule.{failing_calls, calls_made, faults_so_far, FailsNext};
+    ghost use Rattle.xg_memory.specs.Schedule.{failing_calls, calls_made, faults_so_far, FailsNext};
 
     /// Calls are numbered from 1, and those listed in `failing` fail.
     pub fn new(alloc: Global, failing: &[u64]) -> Result<Schedule, AllocError>

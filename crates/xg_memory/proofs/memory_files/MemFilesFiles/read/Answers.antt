@@ -1,8 +1,8 @@
 use Rattle.std.proofs.Common.{List, ap, sym, ◌∙◌}
-use Rattle.xg_io.specs.declared.stored.Stored.{Stored}
-use Rattle.xg_io.specs.Stored.{stored_bytes_at}
-use Rattle.xg_io.proofs.FilesInMemory.{reads_on, reads_none}
-use Rattle.xg_io.proofs.memory_files.MemFilesFiles.read.Goals as goal
+use Rattle.xg_memory.specs.declared.stored.Stored.{Stored}
+use Rattle.xg_memory.specs.Stored.{stored_bytes_at}
+use Rattle.xg_memory.proofs.FilesInMemory.{reads_on, reads_none}
+use Rattle.xg_memory.proofs.memory_files.MemFilesFiles.read.Goals as goal
 
 pub returns-clause-bytes : goal.returns-clause-bytes
 returns-clause-bytes c = reads_on (stored_bytes_at c.args.self.now.files.items) c.args.self.now.current c.in-Some.place c.args.self.now.taken

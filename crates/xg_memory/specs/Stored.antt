@@ -2,7 +2,7 @@
 use Rattle.std.specs.Prelude.{ℕ, List, [], Option, unwrap_or, nat_eq, find, slice_get}
 use Rattle.std.specs.Option.{option_map}
 use Rattle.std.specs.Cmp.Lexicographic.{pointwise}
-use Rattle.xg_io.specs.declared.stored.Stored.{Stored}
+use Rattle.xg_memory.specs.declared.stored.Stored.{Stored}
 
 -- the bytes of a name
 abbrev pub stored_bytes_of : List Stored → List ℕ → Option (List ℕ)

@@ -1,10 +1,10 @@
 -- What files in memory tell.
 use Rattle.std.specs.Prelude.{ℕ, List, drop, Option}
 use Rattle.std.specs.Option.{option_map, option_and_then}
-use Rattle.xg_io.specs.declared.memory_files.MemFiles.{MemFiles}
-use Rattle.xg_io.specs.declared.schedule.Schedule.{Schedule}
-use Rattle.xg_io.specs.Schedule.{faults_so_far}
-use Rattle.xg_io.specs.Stored.{stored_bytes_of, stored_bytes_at}
+use Rattle.xg_memory.specs.declared.memory_files.MemFiles.{MemFiles}
+use Rattle.xg_memory.specs.declared.schedule.Schedule.{Schedule}
+use Rattle.xg_memory.specs.Schedule.{faults_so_far}
+use Rattle.xg_memory.specs.Stored.{stored_bytes_of, stored_bytes_at}
 
 -- the bytes of a name, where there is a file of that name
 abbrev pub told_of : MemFiles → List ℕ → Option (List ℕ)

@@ -1,8 +1,8 @@
 -- What a sink in memory tells.
 use Rattle.std.specs.Prelude.{ℕ, ◌-◌, List, vec_len}
-use Rattle.xg_io.specs.declared.memory_sink.MemSink.{MemSink}
-use Rattle.xg_io.specs.declared.schedule.Schedule.{Schedule}
-use Rattle.xg_io.specs.Schedule.{faults_so_far}
+use Rattle.xg_memory.specs.declared.memory_sink.MemSink.{MemSink}
+use Rattle.xg_memory.specs.declared.schedule.Schedule.{Schedule}
+use Rattle.xg_memory.specs.Schedule.{faults_so_far}
 
 -- the bytes that it took
 abbrev pub bytes_of_sink : MemSink → List ℕ

@@ -7,12 +7,12 @@ ghost use Rattle.std.specs.Io.KnownBytes.{Consumes};
 ghost use Rattle.def_outside.specs.Calls.{past_count};
 ghost use Rattle.def_outside.specs.Cause.{HasCause, next_count};
 ghost use Rattle.xg_io.specs.Cause.{OpenHasCause};
-ghost use Rattle.xg_io.specs.Schedule.{failing_calls, calls_made, FailsNext};
+ghost use Rattle.xg_memory.specs.Schedule.{failing_calls, calls_made, FailsNext};
 
 use crate::schedule::Schedule;
 use crate::stored::{Stored, bytes_of_file, copy_front, find_file, from_place, store};
-use crate::{Failed, Files, OpenFault};
 use std::alloc::{AllocError, Global};
+use xg_io::{Failed, Files, OpenFault};
 
 /// Files in memory, for tests. Their calls of `open` and `read` are numbered together from 1, and fail where they are
 /// told to; a name that they don't hold fails too. They tell what is left.
@@ -27,7 +27,7 @@ pub struct MemFiles {
 }
 
 impl MemFiles {
-    ghost use Rattle.xg_io.specs.MemFiles.{told_of, current_of, left_of, taken_of, opens_of, schedule_of, faults_of};
+    ghost use Rattle.xg_memory.specs.MemFiles.{told_of, current_of, left_of, taken_of, opens_of, schedule_of, faults_of};
 
     /// Holds no files. The calls whose numbers are listed in `failing` fail.
     pub fn new(alloc: Global, failing: &[u64]) -> Result<MemFiles, AllocError>
@@ -67,7 +67,7 @@ impl MemFiles {
 }
 
 impl Files for MemFiles {
-    ghost use Rattle.xg_io.specs.MemFiles.{told_of, current_of, left_of, taken_of, opens_of, schedule_of, faults_of};
+    ghost use Rattle.xg_memory.specs.MemFiles.{told_of, current_of, left_of, taken_of, opens_of, schedule_of, faults_of};
 
     ghost told = { told_of };
 

@@ -1,0 +1,6 @@
+pub mod Schedule
+pub mod Stored
+pub mod MemFiles
+pub mod MemSink
+pub mod SureFiles
+pub mod SureSink
