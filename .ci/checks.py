@@ -14,8 +14,9 @@ ROOT = pathlib.Path(__file__).resolve().parent.parent
 sys.path[1:1] = [str(ROOT / "tools" / "lib"), str(ROOT / "bench")]
 from named_games import game  # noqa: E402
 
-# A check in the background ignores the keyboard's signal, and so would what it calls.
+# A check in the background ignores the keyboard's signal, and one below nohup a hangup, and so would what it calls.
 signal.signal(signal.SIGINT, signal.default_int_handler)
+signal.signal(signal.SIGHUP, signal.SIG_DFL)
 
 LAUNCHER = ROOT / "bin" / "xg_solve"
 VERSION = (ROOT / "VERSION").read_text().strip()
