@@ -4,7 +4,7 @@ use crate::plain::PlainWords;
 use def_command::{RowSettings, Settings};
 
 /// The command that the words name. The names of files are as they were written.
-#[derive(PartialEq, Eq, Drop)]
+#[derive(Drop)]
 pub enum Command<'a> {
     /// The game of a file is solved.
     Solve {

@@ -1,7 +1,6 @@
 //! The commands and the options by their names.
-ghost use Rattle.std.specs.Prelude.{◌≡◌, ℕ, option_map};
-ghost use Rattle.def_command.specs.Table as table;
-ghost use Rattle.def_command.specs.Table.{most_plain, takes, least_number, most_number, default_number};
+ghost use Rattle.std.specs.Prelude.{◌≡◌, option_map};
+ghost use Rattle.def_command.specs.Table.{most_plain, takes, least_number, most_number};
 ghost use Rattle.def_command.specs.Grammar.{command_named, option_named};
 ghost use Rattle.xg_command.specs.Names.{name_value, option_value};
 
@@ -68,16 +67,6 @@ impl CommandName {
             CommandName::Solve | CommandName::Drill | CommandName::Plus => true,
             CommandName::Batch => !matches!(option, OptionName::Atomic),
             _ => false,
-        }
-    }
-
-    /// The scale where none is given: the greatest.
-    pub(crate) fn default_scale(self) -> u32
-        ensures { (rounds : ℕ) → result ≡ default_number (name_value self) table.Scale rounds }
-    {
-        match self {
-            CommandName::Plus => MOST_PLUS_SCALE,
-            _ => MOST_SCALE,
         }
     }
 }

@@ -1,5 +1,5 @@
 //! The same words, read by `clap` with a command of the same options.
-use crate::commands::{WordList, assert_no_row, batch, words_of};
+use crate::commands::{WordList, are_same, assert_no_row, batch, words_of};
 use clap::error::ErrorKind;
 use clap::{Arg, ArgAction, ArgMatches, value_parser};
 use std::alloc::{AllocError, Global};
@@ -184,7 +184,7 @@ fn behind_name<'a>(words: &'a [&'a str]) -> &'a [&'a str] {
 fn agree<'a>(rt: &impl Abort, alloc: Global, words: &'a [&'a str]) -> Result<bool, Fail> {
     let by_clap = read_by_clap(alloc, words)?;
     let taken = words_of(alloc, behind_name(words))?;
-    assert!(rt; taken.command() == by_clap, "{words:?}");
+    assert!(rt; are_same(&taken.command(), &by_clap), "{words:?}");
     Ok(by_clap.is_some())
 }
 

@@ -79,10 +79,57 @@ pub(crate) fn batch<'a>(
     })
 }
 
+/// Whether both are one command, with the same words and numbers.
+fn is_same(one: &Command<'_>, other: &Command<'_>) -> bool {
+    match one {
+        Command::Solve {
+            file,
+            settings,
+            rows,
+        } => matches!(other, Command::Solve { file: f, settings: s, rows: r }
+            if f == file && s == settings && r == rows),
+        Command::Plus {
+            file,
+            settings,
+            rows,
+        } => matches!(other, Command::Plus { file: f, settings: s, rows: r }
+            if f == file && s == settings && r == rows),
+        Command::Check { file, certificate } => {
+            matches!(other, Command::Check { file: f, certificate: c } if f == file && c == certificate)
+        }
+        Command::Upgrade { file, certificate } => {
+            matches!(other, Command::Upgrade { file: f, certificate: c } if f == file && c == certificate)
+        }
+        Command::Info { file } => matches!(other, Command::Info { file: f } if f == file),
+        Command::Gen { cards } => matches!(other, Command::Gen { cards: c } if c == cards),
+        Command::Drill {
+            cards,
+            settings,
+            rows,
+        } => matches!(other, Command::Drill { cards: c, settings: s, rows: r }
+            if c == cards && s == settings && r == rows),
+        Command::Batch {
+            files,
+            settings,
+            workers,
+        } => matches!(other, Command::Batch { files: f, settings: s, workers: w }
+            if f.as_slice() == files.as_slice() && s == settings && w == workers),
+    }
+}
+
+/// Whether both are the same command, or neither is one.
+pub(crate) fn are_same(one: &Option<Command<'_>>, other: &Option<Command<'_>>) -> bool {
+    match (one, other) {
+        (Some(one), Some(other)) => is_same(one, other),
+        (None, None) => true,
+        _ => false,
+    }
+}
+
 /// Whether the words of a row name this command.
 fn names(alloc: Global, row: &[&str], command: Option<Command<'_>>) -> Result<bool, AllocError> {
     let words = words_of(alloc, row)?;
-    Ok(words.command() == command)
+    Ok(are_same(&words.command(), &command))
 }
 
 /// The words, the rounds, after how many of them the plans are evaluated, and the scale.
