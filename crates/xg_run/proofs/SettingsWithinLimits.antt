@@ -8,33 +8,54 @@ use Rattle.def_command.specs.declared.RowSettings.{RowSettings}
 use Rattle.def_command.specs.declared.Settings.{Settings}
 use Rattle.def_command.specs.GrammarLaws.{InRange}
 use Rattle.def_command.proofs.InRange.{settings_in_range}
-use Rattle.xg_engine.specs.State.{AreWithinLimits, AreWithinLimitsOf}
+use Rattle.xg_engine.specs.State.{AreWithinLimits}
+use Rattle.xg_run.specs.Concludes.{IsAllowed}
 
--- settings in their ranges are within the limits
-within : (settings : Settings) (workers : Option ℕ) → InRange settings workers
-    → AreWithinLimitsOf variants.Plain settings
-within settings workers range =
+-- what is in its range may be asked of plain rounds
+in_range : (settings : Settings) (rows : RowSettings) → InRange settings rows.workers
+    → IsAllowed variants.Plain settings rows
+in_range settings rows range = record {
+  limits = record {
+    few_rounds = range.few_rounds;
+    some_every = range.some_every;
+    small_every = range.small_every;
+    some_scale = range.some_scale;
+    small_scale = range.small_scale;
+  };
+  some = range.some_workers;
+  few = range.few_workers;
+}
+
+-- so may what the words ask of `solve`
+pub solve_allowed : (words : List (List ℕ)) (file : List ℕ) (settings : Settings) (rows : RowSettings)
+    → command_of_words words ≡ Some (Solve file settings rows) → IsAllowed variants.Plain settings rows
+solve_allowed words file settings rows is =
+    in_range settings rows (settings_in_range.of_solve words file settings rows is)
+
+-- of `drill`
+pub drill_allowed : (words : List (List ℕ)) (cards : ℕ) (settings : Settings) (rows : RowSettings)
+    → command_of_words words ≡ Some (Drill cards settings rows) → IsAllowed variants.Plain settings rows
+drill_allowed words cards settings rows is =
+    in_range settings rows (settings_in_range.of_drill words cards settings rows is)
+
+-- and of rounds of CFR+
+pub plus_allowed : (words : List (List ℕ)) (file : List ℕ) (settings : Settings) (rows : RowSettings)
+    → command_of_words words ≡ Some (Plus file settings rows) → IsAllowed variants.Plus settings rows
+plus_allowed words file settings rows is =
+    let range = settings_in_range.of_plus words file settings rows is in
     record {
-      few_rounds = range.few_rounds;
-      some_every = range.some_every;
-      small_every = range.small_every;
-      some_scale = range.some_scale;
-      small_scale = range.small_scale;
+      limits = record {
+        few_rounds = range.few_rounds;
+        some_every = range.some_every;
+        small_every = range.small_every;
+        some_scale = range.some_scale;
+        small_scale = range.small_scale;
+      };
+      some = range.some_workers;
+      few = range.few_workers;
     }
 
--- the settings of the command that the words name
-pub solve_within : (words : List (List ℕ)) (file : List ℕ) (settings : Settings) (rows : RowSettings)
-    → command_of_words words ≡ Some (Solve file settings rows) → AreWithinLimitsOf variants.Plain settings
-solve_within words file settings rows is =
-    within settings rows.workers (settings_in_range.of_solve words file settings rows is)
-
--- those of a drill
-pub drill_within : (words : List (List ℕ)) (cards : ℕ) (settings : Settings) (rows : RowSettings)
-    → command_of_words words ≡ Some (Drill cards settings rows) → AreWithinLimitsOf variants.Plain settings
-drill_within words cards settings rows is =
-    within settings rows.workers (settings_in_range.of_drill words cards settings rows is)
-
--- and those of a batch
+-- those of a batch are within the limits
 pub batch_within : (words files : List (List ℕ)) (settings : Settings) (workers : Option ℕ)
     → command_of_words words ≡ Some (Batch files settings workers) → AreWithinLimits settings
 batch_within words files settings workers is =
@@ -47,41 +68,7 @@ batch_within words files settings workers is =
       small_scale = range.small_scale;
     }
 
--- those of `plus` are within the limits of CFR+
-pub plus_within : (words : List (List ℕ)) (file : List ℕ) (settings : Settings) (rows : RowSettings)
-    → command_of_words words ≡ Some (Plus file settings rows) → AreWithinLimitsOf variants.Plus settings
-plus_within words file settings rows is =
-    let range = settings_in_range.of_plus words file settings rows is in
-    record {
-      few_rounds = range.few_rounds;
-      some_every = range.some_every;
-      small_every = range.small_every;
-      some_scale = range.some_scale;
-      small_scale = range.small_scale;
-    }
-
--- a number of workers that is given is at least 1, and no more than the limit
-abbrev pub AreWorkersWithin : Option ℕ → Type 0
-AreWorkersWithin workers = IfSome workers (λ number. 1 ≤ number) × IfSome workers (λ number. number ≤ most_workers)
-
-pub workers_within : (words : List (List ℕ)) (file : List ℕ) (settings : Settings) (rows : RowSettings)
-    → command_of_words words ≡ Some (Solve file settings rows) → AreWorkersWithin rows.workers
-workers_within words file settings rows is =
-    let range = settings_in_range.of_solve words file settings rows is in (range.some_workers, range.few_workers)
-
--- so it is of a drill
-pub drill_workers_within : (words : List (List ℕ)) (cards : ℕ) (settings : Settings) (rows : RowSettings)
-    → command_of_words words ≡ Some (Drill cards settings rows) → AreWorkersWithin rows.workers
-drill_workers_within words cards settings rows is =
-    let range = settings_in_range.of_drill words cards settings rows is in (range.some_workers, range.few_workers)
-
--- and of rounds of CFR+
-pub plus_workers_within : (words : List (List ℕ)) (file : List ℕ) (settings : Settings) (rows : RowSettings)
-    → command_of_words words ≡ Some (Plus file settings rows) → AreWorkersWithin rows.workers
-plus_workers_within words file settings rows is =
-    let range = settings_in_range.of_plus words file settings rows is in (range.some_workers, range.few_workers)
-
--- and of a batch, where a number stands for one that is absent
+-- and so is its number of workers, where one stands for a number that is absent
 pub batch_workers_within : (words files : List (List ℕ)) (settings : Settings) (workers : Option ℕ)
     → command_of_words words ≡ Some (Batch files settings workers)
     → (1 ≤ unwrap_or workers 4) × (unwrap_or workers 4 ≤ most_workers)

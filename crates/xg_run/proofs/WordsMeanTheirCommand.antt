@@ -1,28 +1,43 @@
 -- What the words mean is what their command means, and the files that they name are those of their command.
-use Rattle.std.proofs.Common.{◌≡◌, ℕ, zero, suc, ◌<◌, List, [], ◌∷◌, length, get_or, map, Option, Some, refl, ap, subst, arith}
-use Rattle.std.specs.Prelude.{All}
+use Rattle.std.proofs.Common.{◌≡◌, ℕ, zero, suc, ◌<◌, List, [], ◌∷◌, length, get_or, map, Option, Some, None, refl, ap, sym, subst, arith}
+use Rattle.std.specs.Prelude.{◌↔◌, All, IsNone}
 use Rattle.std.specs.Borrow.{Bor}
 use Rattle.std.proofs.lemmas.List.{length-map}
-use Rattle.def_outside.specs.Calls.{FilesCall, OpensAtMost, SinkCall}
-use Rattle.def_command.specs.Grammar.{Command, command_of_words, file_words, files_of, named_files}
+use Rattle.def_outside.specs.Calls.{FilesCall, HasNoFault, IsUntouched, OpensAtMost, SinkCall}
+use Rattle.def_command.specs.Grammar.{Command, command_of_words, file_words, files_of}
 use Rattle.def_program.specs.Lines.{IsCheck}
-use Rattle.def_program.specs.Meaning.{IsMeant, Means}
+use Rattle.def_program.specs.Meaning.{IsMeant}
 use Rattle.xg_load.specs.declared.ending.Ending.{Ending}
-use Rattle.xg_run.specs.Concludes.{Concludes}
+use Rattle.xg_run.specs.Concludes.{Concludes, ConcludesWords, EndsCall}
 
-module _ (words : List (List ℕ)) (told : List ℕ → Option (List ℕ)) (files : FilesCall) (out : SinkCall) where
-  -- an ending that concludes what the words' command means concludes what the words mean
-  pub by_command : (command : Option Command) → command ≡ command_of_words words → (ending : Ending)
-      → Concludes (IsCheck command) (IsMeant command told) files out ending
-      → Concludes (IsCheck (command_of_words words)) (Means words told) files out ending
-  by_command command same ending is =
-      subst (λ (c : Option Command). Concludes (IsCheck c) (IsMeant c told) files out ending) same is
+module _ (told : List ℕ → Option (List ℕ)) (files : FilesCall) (out : SinkCall) where
+  -- the end of a command is that of the words that name it
+  pub by_command : (words : List (List ℕ)) (command : Command) → command_of_words words ≡ Some command
+      → (ending : Ending) → Concludes (IsCheck (Some command)) (IsMeant (Some command) told) files out ending
+      → OpensAtMost files (length (file_words command)) → EndsCall (command_of_words words) told files out (Some ending)
+  by_command words command same ending is few =
+      subst (λ (c : Option Command). EndsCall c told files out (Some ending)) (sym same) (is, few)
 
--- no more files are opened than the words name, where no more are opened than their command names
-pub opens_named : (words : List (List ℕ)) (files : FilesCall) (command : Command) → Some command ≡ command_of_words words
-    → OpensAtMost files (length (file_words command)) → OpensAtMost files (length (named_files words))
-opens_named words files command same few =
-    subst (λ (c : Option Command). OpensAtMost files (length (files_of c))) same few
+  -- and so it is where they name none
+  pub by_none : (words : List (List ℕ)) → command_of_words words ≡ None → HasNoFault files.faults → IsUntouched out
+      → OpensAtMost files 0 → EndsCall (command_of_words words) told files out None
+  by_none words same read untouched few =
+      subst (λ (c : Option Command). EndsCall c told files out None) (sym same)
+      (record { means = λ answer means. means; read = read; untouched = untouched }, few)
+
+  -- what such an end shows
+  pub record Shows (command : Option Command) (ending : Option Ending) : Type 0 where
+    pub concludes : ConcludesWords (IsCheck command) (IsMeant command told) files out ending
+    pub opens : OpensAtMost files (length (files_of command))
+    pub usage : IsNone ending ↔ IsNone command
+
+  pub end_shows : (command : Option Command) (ending : Option Ending) → EndsCall command told files out ending
+      → Shows command ending
+  end_shows (Some command) (Some ending) ends =
+      record { concludes = ends.0; opens = ends.1; usage = (λ none. absurd cc, λ none. absurd cc) }
+  end_shows (Some command) None ends = absurd ends
+  end_shows None (Some ending) ends = absurd ends
+  end_shows None None ends = record { concludes = ends.0; opens = ends.1; usage = (λ none. refl, λ none. refl) }
 
 -- ---- the names of a batch, which the words hold
 
@@ -45,3 +60,9 @@ pub told_of_names : (told : List ℕ → Option (List ℕ)) (names : List (Bor (
     → map (λ (name : Bor (List ℕ)). told name.now) names ≡ map told (map (λ (name : Bor (List ℕ)). name.now) names)
 told_of_names told [] = refl
 told_of_names told (name ∷ names) = ap (λ rest. told name.now ∷ rest) (told_of_names told names)
+
+-- no more files are opened than a batch names
+pub few_named : (files : FilesCall) (names items : List (Bor (List ℕ))) → names ≡ items
+    → OpensAtMost files (length names) → OpensAtMost files (length (map (λ (name : Bor (List ℕ)). name.now) items))
+few_named files names items same few =
+    omega (arith, ap length same, length-map items (λ (name : Bor (List ℕ)). name.now), few)

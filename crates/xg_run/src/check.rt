@@ -7,7 +7,7 @@ ghost use Rattle.def_file.specs.Reading.{most_bytes};
 ghost use Rattle.def_cert_text.specs.CertText.{versioned_in};
 ghost use Rattle.def_cert_versions.specs.Upgrade.{IsUpgradable};
 ghost use Rattle.def_check.specs.Check.{most_cert_bytes};
-ghost use Rattle.def_program.specs.CheckLines.{check_text, upgraded_text, verdict_text};
+ghost use Rattle.def_program.specs.CheckLines.{verdict_text};
 ghost use Rattle.def_program.specs.Meaning.{BothMean};
 ghost use Rattle.def_outside.specs.Sinks.{Writes};
 ghost use Rattle.xg_check.specs.Answers.{verdict_of};
@@ -25,7 +25,7 @@ use xg_io::{Files, Sink, Writable, WriteFault, write_all, write_paged};
 
 /// What is written of a certificate that is accepted.
 #[derive(Clone, Copy)]
-enum Report {
+pub enum Report {
     /// The line of its verdict.
     Verdict,
     /// Its text in the second version.
@@ -52,44 +52,8 @@ impl Writable for UpgradedText<'_> {
     }
 }
 
-/// Checks a certificate against the game of a file, and writes its verdict.
-pub fn check<F: Files, O: Sink>(
-    alloc: Global,
-    file: &str,
-    certificate: &str,
-    files: &mut F,
-    out: &mut O,
-) -> Ending
-    requires file { IsTrue (F.may_open files.old file.now) }
-    requires certificate { IsNotTooLong (F.told files.old file.now) → IsTrue (F.may_open files.old certificate.now) }
-    ensures concludes { Concludes (Unit {0})
-        (BothMean check_text (F.told files.old file.now) (F.told files.old certificate.now))
-        (files_call F.Files files.old files.new) (sink_call O.Sink out.old out.new) result }
-    ensures opens { OpensAtMost (files_call F.Files files.old files.new) 2 }
-{
-    check_both(alloc, Report::Verdict, file, certificate, files, out)
-}
-
-/// Checks a certificate against the game of a file, and writes it in the second version.
-pub fn upgrade<F: Files, O: Sink>(
-    alloc: Global,
-    file: &str,
-    certificate: &str,
-    files: &mut F,
-    out: &mut O,
-) -> Ending
-    requires file { IsTrue (F.may_open files.old file.now) }
-    requires certificate { IsNotTooLong (F.told files.old file.now) → IsTrue (F.may_open files.old certificate.now) }
-    ensures concludes { Concludes (Unit {0})
-        (BothMean upgraded_text (F.told files.old file.now) (F.told files.old certificate.now))
-        (files_call F.Files files.old files.new) (sink_call O.Sink out.old out.new) result }
-    ensures opens { OpensAtMost (files_call F.Files files.old files.new) 2 }
-{
-    check_both(alloc, Report::Upgrade, file, certificate, files, out)
-}
-
 /// Checks a certificate against the game of a file, and writes this of one that is accepted.
-fn check_both<F: Files, O: Sink>(
+pub fn check<F: Files, O: Sink>(
     alloc: Global,
     report: Report,
     file: &str,

@@ -1,6 +1,6 @@
 //! The top call.
-ghost use Rattle.std.specs.Prelude.{◌≡◌, ◌≢◌, ◌↔◌, ◌≤◌, IfSome, IsNone, IsTrue, length};
-ghost use Rattle.def_sums.specs.Limits.{least_cards, most_cards, most_workers};
+ghost use Rattle.std.specs.Prelude.{◌≡◌, ◌≢◌, ◌↔◌, ◌≤◌, IsNone, IsTrue, length};
+ghost use Rattle.def_sums.specs.Limits.{least_cards, most_cards};
 ghost use Rattle.def_outside.specs.Calls.{HasFailed, HasFailedOnce, MayHaveFailed, OpensAtMost, Wrote, WroteFront};
 ghost use Rattle.def_outside.specs.Calls.{WroteNothing};
 ghost use Rattle.xg_io.specs.Calls.{files_call, sink_call};
@@ -9,18 +9,17 @@ ghost use Rattle.def_canon.specs.Poker.{poker};
 ghost use Rattle.def_plus.specs.declared.Variant.TheVariants.{Plain};
 ghost use Rattle.def_program.specs.Program.{played, solved};
 ghost use Rattle.def_program.specs.Text.{info_text};
-ghost use Rattle.xg_engine.specs.State.{AreWithinLimitsOf};
 ghost use Rattle.def_cert_accepted.specs.Bounds.{BoundsHold};
 ghost use Rattle.def_program.specs.Bounds.{ForEachPlayed};
 ghost use Rattle.def_program.specs.Checked.{ForEachChecked};
-ghost use Rattle.def_program.specs.Lines.{IsCheck, SaysLine};
+ghost use Rattle.def_program.specs.Lines.{SaysLine};
 ghost use Rattle.def_program.specs.Meaning.{EachMeant, EndsWith, Means};
 ghost use Rattle.xg_load.specs.Endings.{Tells};
-ghost use Rattle.xg_run.specs.Concludes.{Concludes, ConcludesWords, FileTold};
+ghost use Rattle.xg_run.specs.Concludes.{Concludes, EndsCall, FileTold, IsAllowed};
 ghost use Rattle.def_program_opens.specs.MayOpen.{MayOpen};
 
 use crate::batch::batch;
-use crate::check::{check, upgrade};
+use crate::check::{Report, check};
 use crate::ending::{Ending, finish};
 use std::alloc::Global;
 use std::marker::Sync;
@@ -48,9 +47,7 @@ fn solve<Rt: Threads + Wait + Sync, F: Files, O: Sink, G: Gate>(
     gate: &G,
 ) -> Ending
     requires may_open { IsTrue (F.may_open files.old file.now) }
-    requires limits { AreWithinLimitsOf variant settings }
-    requires some { IfSome rows.workers (λ number. 1 ≤ number) }
-    requires few { IfSome rows.workers (λ number. number ≤ most_workers) }
+    requires allowed { IsAllowed variant settings rows }
     ensures concludes { Concludes ⊥ (FileTold (played variant settings) (F.told files.old file.now))
         (files_call F.Files files.old files.new) (sink_call O.Sink out.old out.new) result }
     ensures opens { OpensAtMost (files_call F.Files files.old files.new) 1 }
@@ -84,11 +81,8 @@ fn drill<Rt: Threads + Wait + Sync, O: Sink, G: Gate>(
     out: &mut O,
     gate: &G,
 ) -> Ending
-    requires low { least_cards ≤ cards }
-    requires high { cards ≤ most_cards }
-    requires limits { AreWithinLimitsOf Plain settings }
-    requires some { IfSome rows.workers (λ number. 1 ≤ number) }
-    requires few { IfSome rows.workers (λ number. number ≤ most_workers) }
+    requires cards { (least_cards ≤ cards) × (cards ≤ most_cards) }
+    requires allowed { IsAllowed Plain settings rows }
     ensures { Tells (solved settings (poker cards)) (sink_call O.Sink out.old out.new) result }
 {
     match accepted_poker(alloc, cards) {
@@ -116,10 +110,8 @@ fn conclude<Rt: Threads + Wait + Sync, F: Files, O: Sink, G: Gate>(
     gate: &G,
 ) -> Option<Ending>
     requires { MayOpen (F.told files.old) (F.may_open files.old) (command_of_words words.now) }
-    ensures concludes { ConcludesWords (IsCheck (command_of_words words.now)) (Means words.now (F.told files.old))
-        (files_call F.Files files.old files.new) (sink_call O.Sink out.old out.new) result }
-    ensures opens { OpensAtMost (files_call F.Files files.old files.new) (length (named_files words.now)) }
-    ensures usage { IsNone result ↔ IsNone (command_of_words words.now) }
+    ensures { EndsCall (command_of_words words.now) (F.told files.old) (files_call F.Files files.old files.new)
+        (sink_call O.Sink out.old out.new) result }
 {
     match words.command() {
         Some(
@@ -157,10 +149,10 @@ fn conclude<Rt: Threads + Wait + Sync, F: Files, O: Sink, G: Gate>(
             gate,
         )),
         Some(Command::Check { file, certificate }) => {
-            Some(check(alloc, file, certificate, files, out))
+            Some(check(alloc, Report::Verdict, file, certificate, files, out))
         }
         Some(Command::Upgrade { file, certificate }) => {
-            Some(upgrade(alloc, file, certificate, files, out))
+            Some(check(alloc, Report::Upgrade, file, certificate, files, out))
         }
         Some(
             Command::Batch {

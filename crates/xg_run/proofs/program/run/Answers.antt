@@ -10,6 +10,7 @@ use Rattle.def_program.proofs.Checked.{each_checked}
 use Rattle.def_program.proofs.Played.{each_played}
 use Rattle.xg_run.specs.Endings.{line_said}
 use Rattle.xg_run.proofs.ExitStatusLaws.{KeepsStatus, no_ending, status_2, status_shown, status_range}
+use Rattle.xg_run.proofs.WordsMeanTheirCommand.{Shows, end_shows}
 use Rattle.xg_run.proofs.program.run.Goals as goal
 
 pub returns : goal.returns
@@ -21,18 +22,19 @@ returns g c =
     let told : List ℕ → Option (List ℕ) = g.F.Files.told c.args.files.now in
     let meant : Answer → Type 0 = Means words told in
     let ending = c.conclude-ending.result in
-    let usage = c.conclude-ending.ensures.usage in
+    let ends : Shows told files out (command_of_words words) ending =
+    end_shows told files out (command_of_words words) ending c.conclude-ending.ensures in
     let status = c.finish.ensures.status in
     let shows : KeepsStatus (IsCheck (command_of_words words)) meant files out c.finish.result (line_said ending) =
-    status_shown (IsCheck (command_of_words words)) meant files out ending c.conclude-ending.ensures.concludes c.finish.result status in
+    status_shown (IsCheck (command_of_words words)) meant files out ending ends.concludes c.finish.result status in
     record {
       range = status_range ending c.finish.result status;
-      words = (λ is. usage.0 (no_ending ending (sym status ∙ is)), λ none. status ∙ status_2 ending (usage.1 none));
+      words = (λ is. ends.usage.0 (no_ending ending (sym status ∙ is)), λ none. status ∙ status_2 ending (ends.usage.1 none));
       refused = shows.refused;
       complete = shows.complete;
       read_fault = shows.read_fault;
       files_failed = shows.files_failed;
-      opens = c.conclude-ending.ensures.opens;
+      opens = ends.opens;
       write_fault = shows.write_fault;
       out_failed = shows.out_failed;
       whole = shows.whole;

@@ -4,7 +4,7 @@ use Rattle.def_cert_text.specs.CertText.{versioned_in}
 use Rattle.def_cert_verdict.specs.Verdict.{Verdict}
 use Rattle.xg_run.specs.ChecksEnd.{report_text}
 use Rattle.xg_run.proofs.Checking.{both_checked, not_both}
-use Rattle.xg_run.proofs.check.check_both.Goals as goal
+use Rattle.xg_run.proofs.check.check.Goals as goal
 
 pub returns-in-Ok-clause-concludes : goal.returns-in-Ok-clause-concludes
 returns-in-Ok-clause-concludes g c =
