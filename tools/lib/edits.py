@@ -263,7 +263,10 @@ class Trial:
         has_store = os.path.isdir(getattr(self.toolchain, "STORE", ""))
         if not has_store or os.path.exists(f"{crate.folder}/out/rlib/stamp") or not os.path.isdir(crate.rlib):
             return False
-        self.store = self.store or self.toolchain.Kept([])
+        if not self.store:
+            # What `rt ci` keeps goes by the handles that it allows, too.
+            self.toolchain.Crate.allowed = self.toolchain.handles_of(str(ROOT))
+            self.store = self.toolchain.Kept([])
         self.store.is_built(crate)
         place = pathlib.Path(self.store.place(crate, False, self.store.key(crate)))
         try:
