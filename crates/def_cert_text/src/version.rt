@@ -1,7 +1,7 @@
 //! The versions of a certificate's text.
 
 /// The version of a text, which its first line names.
-#[derive(Clone, Copy, PartialEq, Eq)]
+#[derive(Clone, Copy)]
 pub enum TextVersion {
     /// The sum stands behind the unit, where it isn't 0.
     One,

@@ -1,7 +1,7 @@
 //! Why bytes are no number.
 
 /// Why bytes are no number, in the order in which the faults are sought.
-#[derive(Clone, Copy, Debug, PartialEq, Eq)]
+#[derive(Clone, Copy, PartialEq, Eq)]
 pub enum NumberFault {
     /// The bytes aren't of the form.
     Form,

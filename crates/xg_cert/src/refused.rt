@@ -4,13 +4,24 @@ ghost use Rattle.xg_cert.specs.declared.refused.CertRefused.TheVariants.{Cert, N
 
 use def_cert_text::CertFault;
 use std::alloc::{AllocError, AllocFailed};
+use std::fmt;
 
 /// Why bytes aren't read as a certificate.
-#[derive(Clone, Copy, Debug, PartialEq, Eq)]
+#[derive(Clone, Copy, PartialEq, Eq)]
 pub enum CertRefused {
     /// The first fault of the bytes.
     Cert(CertFault),
     NoMemory,
+}
+
+// By hand, since a derived text takes long to prove. Which fault it is, the fault tells.
+impl fmt::Debug for CertRefused {
+    fn fmt<W: fmt::Write>(&self, f: &mut fmt::Formatter<W>) -> fmt::Result {
+        f.write_str(match self {
+            CertRefused::Cert(_) => "Cert",
+            CertRefused::NoMemory => "NoMemory",
+        })
+    }
 }
 
 impl From<CertFault> for CertRefused {

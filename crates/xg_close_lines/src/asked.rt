@@ -12,7 +12,7 @@ use xg_close_numbers::{Rounded, exact_decimal};
 use xg_io::{Sink, WriteFault, write_all};
 
 /// A width that is asked, as it is written.
-#[derive(Clone, Copy, Debug, PartialEq, Eq)]
+#[derive(Clone, Copy, PartialEq, Eq)]
 pub enum AskedWidth {
     /// A decimal.
     Decimal(Rounded),

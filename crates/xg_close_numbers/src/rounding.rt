@@ -6,7 +6,7 @@ ghost use Rattle.def_progress.specs.Decimals.{most_places};
 pub(crate) const MOST_PLACES: u32 = 18;
 
 /// A decimal: so many units of the last place, of so many behind the point, which are at most 18.
-#[derive(Clone, Copy, Debug, PartialEq, Eq)]
+#[derive(Clone, Copy, PartialEq, Eq)]
 pub struct Rounded {
     pub number: u128,
     pub places: u32,

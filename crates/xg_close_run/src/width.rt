@@ -20,7 +20,7 @@ use xg_load::AcceptedGame;
 const PARTS: u32 = 100_000;
 
 /// How wide a bracket may be: `num / (den * per)`.
-#[derive(Clone, Copy, Debug)]
+#[derive(Clone, Copy)]
 pub(crate) struct Width {
     pub(crate) num: u128,
     pub(crate) den: u128,

@@ -8,7 +8,7 @@ pub const MOST_ROUNDS: u32 = 4_194_304;
 pub const USUAL_ROUNDS: u32 = 65_536;
 
 /// What a call asks for.
-#[derive(Clone, Copy, Debug)]
+#[derive(Clone, Copy)]
 pub struct Asked<'a> {
     /// The name of the game's file.
     pub file: &'a str,

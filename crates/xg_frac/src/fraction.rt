@@ -13,7 +13,7 @@ pub struct OverLimit;
 
 /// An exact fraction in lowest terms, whose parts are at most 2^62 in size and whose denominator is at
 /// least 1. Equal fractions have equal parts.
-#[derive(Clone, Copy, Debug, PartialEq, Eq)]
+#[derive(Clone, Copy, PartialEq, Eq)]
 pub struct Frac {
     num: i64,
     den: i64,

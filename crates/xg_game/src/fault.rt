@@ -4,14 +4,25 @@ ghost use Rattle.xg_game.specs.declared.fault.Refused.TheVariants.{File, NoMemor
 
 use def_file::FileFault;
 use std::alloc::AllocError;
+use std::fmt;
 
 /// Why a game isn't read.
-#[derive(Clone, Copy, Debug, PartialEq, Eq)]
+#[derive(Clone, Copy, PartialEq, Eq)]
 pub enum Refused {
     /// The file's first fault.
     File(FileFault),
     /// Memory ran out.
     NoMemory,
+}
+
+// By hand, since a derived text of all faults of a file takes long to prove. Which fault it is, the fault tells.
+impl fmt::Debug for Refused {
+    fn fmt<W: fmt::Write>(&self, f: &mut fmt::Formatter<W>) -> fmt::Result {
+        f.write_str(match self {
+            Refused::File(_) => "File",
+            Refused::NoMemory => "NoMemory",
+        })
+    }
 }
 
 impl From<FileFault> for Refused {

@@ -13,11 +13,11 @@ use std::thread::Threads;
 use thiserror::Error;
 
 /// A call to the outside failed. Nothing more is known of why.
-#[derive(Clone, Copy, Debug, PartialEq, Eq)]
+#[derive(Clone, Copy)]
 pub struct Failed;
 
 /// Why a file isn't open.
-#[derive(Clone, Copy, Debug, PartialEq, Eq, Error)]
+#[derive(Clone, Copy, Debug, Error)]
 pub enum OpenFault {
     /// The name can't be opened.
     #[error("the file cannot be opened")]
@@ -112,7 +112,7 @@ pub trait Gate: Sync {
 }
 
 /// The gate that holds nobody up.
-#[derive(Clone, Copy, Debug, PartialEq, Eq)]
+#[derive(Clone, Copy)]
 pub struct OpenGate;
 
 impl Gate for OpenGate {

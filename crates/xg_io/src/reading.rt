@@ -12,7 +12,7 @@ use thiserror::Error;
 const PIECE: usize = 16_384;
 
 /// Why a file wasn't read whole.
-#[derive(Clone, Copy, Debug, PartialEq, Eq, Error)]
+#[derive(Clone, Copy, Debug, Error)]
 pub enum ReadAllFault {
     /// The file can't be opened or read.
     #[error("read fault")]

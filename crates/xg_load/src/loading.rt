@@ -12,7 +12,7 @@ use xg_io::{Files, ReadAllFault, read_all};
 use xg_read::{FileFault, MOST_BYTES, Refused, read_game};
 
 /// Why a game isn't loaded.
-#[derive(Clone, Copy, Debug, PartialEq, Eq)]
+#[derive(Clone, Copy)]
 pub enum LoadFault {
     /// The file can't be opened or read.
     ReadFault,

@@ -9,7 +9,7 @@ use std::cmp::Ordering;
 use xg_frac::{Frac, compare};
 
 /// The least and the greatest of what leaves pay player one.
-#[derive(Clone, Copy, Debug, PartialEq, Eq)]
+#[derive(Clone, Copy)]
 pub struct PayoffRange {
     pub least: Frac,
     pub greatest: Frac,

@@ -12,7 +12,7 @@ use std::marker::Model;
 use thiserror::Error;
 
 /// Why a node was not taken.
-#[derive(Debug, Drop, PartialEq, Eq, Error)]
+#[derive(Debug, Drop, Error)]
 pub enum PushFault {
     #[error("a tree has at most 1048576 nodes")]
     TooManyNodes,
