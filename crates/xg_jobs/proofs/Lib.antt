@@ -1,9 +1,9 @@
 mod RowLemmas
 mod RangeLemmas
-mod GroupSums
+pub mod GroupSums
 mod PairWeights
-mod Parts
-mod PassOverGroup
+pub mod Parts
+pub mod PassOverGroup
 mod PassOverLeaves
 mod Columns
 mod Counting
@@ -12,7 +12,7 @@ mod OneEntry
 pub mod Greatest
 pub mod TwoParts
 mod Building
-mod FormRows
+pub mod FormRows
 mod StandingTrees
 mod LinkedChildren
 mod OnePassOverJobs

@@ -66,7 +66,7 @@ fn add_group<E: GroupEntry, R: Row>(group: &[E], number: u64, two: &[u64], other
 }
 
 /// The sum over a group's leaves.
-pub(crate) fn sum_group<E: GroupEntry, R: Row>(group: &[E], two: &[u64]) -> R
+pub fn sum_group<E: GroupEntry, R: Row>(group: &[E], two: &[u64]) -> R
     ghost most: { ℕ }
     requires within { All (λ e. e.other < length two.now) (map E.leaf group.now) }
     requires small_two { (b : ℕ) → slice_index two.now b ≤ most }

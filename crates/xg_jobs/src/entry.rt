@@ -3,29 +3,34 @@ ghost use Rattle.std.specs.Prelude.{◌≡◌, ◌↔◌, IsTrue};
 ghost use Rattle.xg_jobs.specs.Groups.{GroupLeaf};
 
 /// A leaf in the group of its sequence of one player, with the sequence of the other one.
-pub(crate) trait GroupEntry: Copy {
-    // the leaf, and which leaves there is room for
+pub trait GroupEntry: Copy {
+    /// The leaf.
     ghost leaf: { Self → GroupLeaf };
 
+    /// Which leaves there is room for.
     ghost has_room: { GroupLeaf → Type 0 };
 
+    /// Whether there is room for a leaf.
     fn fits(other: u32, weight: i64) -> bool
         ensures { IsTrue result ↔ has_room (record { other = other; weight = weight }) };
 
+    /// The entry of a leaf.
     fn new(other: u32, weight: i64) -> Self
         requires { has_room (record { other = other; weight = weight }) }
         ensures { leaf result ≡ record { other = other; weight = weight } };
 
+    /// The leaf's sequence of the other player.
     fn other(&self) -> u32
         ensures { result ≡ (leaf self.now).other };
 
+    /// The leaf's weight.
     fn weight(&self) -> i64
         ensures { result ≡ (leaf self.now).weight };
 }
 
 /// Entries in which each weight has room.
 #[derive(Drop)]
-pub(crate) enum GroupEntries {
+pub enum GroupEntries {
     Tiny(Vec<TinyEntry>),
     Small(Vec<SmallEntry>),
     Wide(Vec<WideEntry>),
@@ -33,7 +38,7 @@ pub(crate) enum GroupEntries {
 
 /// An entry of 4 bytes, which most games' leaves fit.
 #[derive(Clone, Copy)]
-pub(crate) struct TinyEntry {
+pub struct TinyEntry {
     other: u16,
     weight: i16,
 }
@@ -67,7 +72,7 @@ impl GroupEntry for TinyEntry {
 
 /// An entry of 8 bytes, which most games' weights fit.
 #[derive(Clone, Copy)]
-pub(crate) struct SmallEntry {
+pub struct SmallEntry {
     other: u32,
     weight: i32,
 }
@@ -101,7 +106,7 @@ impl GroupEntry for SmallEntry {
 
 /// An entry for any weight.
 #[derive(Clone, Copy)]
-pub(crate) struct WideEntry {
+pub struct WideEntry {
     pub(crate) other: u32,
     pub(crate) weight: i64,
 }

@@ -1,26 +1,25 @@
 //! The groups of player one's sequences, with the smallest entries that have room.
-ghost use Rattle.std.specs.Prelude.{◌≡◌, ℕ, ◌*◌, ◌<◌, ◌≤◌, max, All, IfOk, length, map, pos};
+ghost use Rattle.std.specs.Prelude.{◌≡◌, ◌*◌, ◌<◌, ◌≤◌, max, IfOk, length, map};
 ghost use Rattle.std.specs.Thread.{IsSync};
-ghost use Rattle.def_sums.specs.Limits.{most_mass, most_root};
+ghost use Rattle.def_sums.specs.Limits.{most_mass};
 ghost use Rattle.def_tree.specs.declared.Player.TheVariants.{One, Two};
-ghost use Rattle.def_tree.specs.Opponent.{opponent};
-ghost use Rattle.def_plan.specs.Form.{player_sets, sequence_count};
-ghost use Rattle.def_plan.specs.FormRows.{amount_of, player_rows};
+ghost use Rattle.def_plan.specs.Form.{sequence_count};
+ghost use Rattle.def_plan.specs.FormRows.{player_rows};
 ghost use Rattle.def_plan.specs.Payoff.{mass_of};
-ghost use Rattle.xg_jobs.specs.Entries.{AreGroupsOf};
-ghost use Rattle.xg_jobs.specs.Grouping.{pair_weights};
+ghost use Rattle.xg_jobs.specs.Entries.{AreGroupsOf, KeepsGroups, leaves_of_group};
+ghost use Rattle.xg_jobs.specs.Grouping.{pair_weights, weights_in};
 ghost use Rattle.xg_jobs.specs.Groups.{greatest_of};
 ghost use Rattle.xg_jobs.specs.Merging.{HasRoomUpTo};
 ghost use Rattle.xg_jobs.specs.Rows.{AreNumbersOf};
 
 use crate::entry::{GroupEntries, GroupEntry, SmallEntry, WideEntry};
 use crate::grouping::{entries_of, starts_of};
-use crate::input::{PlayerInput, RowInput};
+use crate::input::RowInput;
 use crate::merging::{Grouped, merged};
 use crate::packing::MergedEntry;
 use crate::row::Row;
 use crate::sizes::total_mass;
-use crate::writing::{write_alone, write_rows};
+use crate::writing::write_rows;
 use def_tree::Player;
 use std::alloc::{AllocError, Global};
 use std::marker::{Model, Send, Sync};
@@ -37,6 +36,16 @@ pub(crate) struct LeafGroups {
     others: u32,
     // the sizes of the weights of all leaves together, which those of the entries are within
     mass: u64,
+}
+
+/// The leaves of each of player one's sequences, as they stand.
+#[derive(Clone, Copy)]
+pub struct PairGroups<'a> {
+    /// Where each sequence's group begins, and behind them where the last one ends.
+    pub starts: &'a [u32],
+    pub entries: &'a GroupEntries,
+    /// How many sequences player two has.
+    pub others: u32,
 }
 
 impl Model for LeafGroups {
@@ -96,6 +105,19 @@ impl LeafGroups {
         self.mass
     }
 
+    /// The groups themselves.
+    pub(crate) fn shown(&self) -> PairGroups<'_>
+        ensures kept { KeepsGroups result.starts.now (leaves_of_group result.entries.now) result.others self.now.mass }
+        ensures weights { weights_in result.starts.now (leaves_of_group result.entries.now) result.others
+            ≡ self.now.weights }
+    {
+        PairGroups {
+            starts: &self.starts,
+            entries: &self.entries,
+            others: self.others,
+        }
+    }
+
     /// How many entries the groups have.
     pub(crate) fn entry_count(&self) -> u32 {
         self.starts[self.starts.len() - 1]
@@ -133,27 +155,6 @@ impl LeafGroups {
             GroupEntries::Wide(entries) => write_rows(
                 rt, starts, entries, input, own, other, spare,
             ),
-        }
-    }
-
-    /// Writes for each sequence of one player the sum over its leaves against the other player's numbers, where each
-    /// has room. The rows begin with 0.
-    pub(crate) fn write_alone<R: Row>(&self, input: &PlayerInput<'_>, rows: &mut [R])
-        requires groups { self.now.weights ≡ pair_weights input.now.form.now One }
-        requires numbers { length input.now.against.now ≡ sequence_count
-            (player_sets input.now.form.now (opponent input.now.player)) }
-        requires small { All (λ n. n ≤ most_root) input.now.against.now }
-        requires room { self.now.mass ≤ most_mass → self.now.mass * greatest_of input.now.against.now < R.limit }
-        requires count { length rows.old ≡ sequence_count (player_sets input.now.form.now input.now.player) }
-        requires zeros { (b : ℕ) → amount_of (map R.amount rows.old) b ≡ pos 0 }
-        ensures { map R.amount rows.new ≡ player_rows input.now.form.now input.now.player input.now.against.now }
-    {
-        input.form.facts();
-        let starts: &[u32] = &self.starts;
-        match &self.entries {
-            GroupEntries::Tiny(entries) => write_alone(starts, entries, input, rows),
-            GroupEntries::Small(entries) => write_alone(starts, entries, input, rows),
-            GroupEntries::Wide(entries) => write_alone(starts, entries, input, rows),
         }
     }
 }

@@ -4,21 +4,25 @@ ghost use Rattle.def_sums.specs.Limits.{past_number};
 ghost use Rattle.def_plan.specs.FormRows.{amount_of};
 
 /// The amount at a row, in as many bits as the sums of a form need.
-pub(crate) trait Row: Copy {
-    // the amount, and one past the greatest size that there is room for
+pub trait Row: Copy {
+    /// The amount.
     ghost amount: { Self → ℤ };
 
+    /// One past the greatest size that there is room for.
     ghost limit: { ℕ };
 
+    /// The amount 0.
     fn zero() -> Self
         ensures { amount result ≡ pos 0 };
 
+    /// The amount with a product added.
     fn plus_product(&self, w: i64, n: u64) -> Self
         requires small { n < past_number }
         requires product { unsigned_abs w * n < limit }
         requires room { unsigned_abs (amount self.now +ℤ (w *ℤ pos n)) < limit }
         ensures { amount result ≡ amount self.now +ℤ (w *ℤ pos n) };
 
+    /// The amount with another one added.
     fn plus_row(&self, other: &Self) -> Self
         requires { unsigned_abs (amount self.now +ℤ amount other.now) < limit }
         ensures { amount result ≡ amount self.now +ℤ amount other.now };
@@ -83,7 +87,7 @@ fn plus_wide(a: i128, b: i128) -> i128
 }
 
 /// Adds a product to a row.
-pub(crate) fn add_product<R: Row>(rows: &mut [R], row: usize, w: i64, n: u64)
+pub fn add_product<R: Row>(rows: &mut [R], row: usize, w: i64, n: u64)
     requires inside { row < length rows.old }
     requires small { n < past_number }
     requires product { unsigned_abs w * n < R.limit }
@@ -98,7 +102,7 @@ pub(crate) fn add_product<R: Row>(rows: &mut [R], row: usize, w: i64, n: u64)
 }
 
 /// Puts an amount at a row.
-pub(crate) fn put<R: Row>(rows: &mut [R], row: usize, amount: R)
+pub fn put<R: Row>(rows: &mut [R], row: usize, amount: R)
     requires inside { row < length rows.old }
     ensures count { length rows.new ≡ length rows.old }
     ensures here { amount_of (map R.amount rows.new) row ≡ R.amount amount }

@@ -42,7 +42,7 @@ fn greatest(numbers: &[u64]) -> u64
 }
 
 /// Whether each sum is within 64 bits, with its sign. Light weights tell it whatever the numbers are.
-pub(crate) fn sums_fit_word(mass: u64, one: &[u64], two: &[u64]) -> bool
+pub fn sums_fit_word(mass: u64, one: &[u64], two: &[u64]) -> bool
     requires small_one { All (λ n. n ≤ most_root) one.now }
     requires small_two { All (λ n. n ≤ most_root) two.now }
     ensures { IsTrue result ↔ mass * max (greatest_of one.now) (greatest_of two.now) < 2 ^ 63 }

@@ -1,5 +1,5 @@
 //! The table of a game's jobs.
-ghost use Rattle.std.specs.Prelude.{◌≡◌, ◌↔◌, ◌*◌, ◌-◌, ◌^◌, ◌<◌, ◌≤◌, All, length, max, IfOk, IsTrue, OnErr, OnOk};
+ghost use Rattle.std.specs.Prelude.{◌≡◌, ◌↔◌, ◌*◌, ◌-◌, ◌^◌, ◌<◌, ◌≤◌, length, max, IfOk, IsTrue, OnErr, OnOk};
 ghost use Rattle.std.specs.Prelude.{Some, map, slice_get, slice_index_or};
 ghost use Rattle.std.specs.Thread.{IsSync};
 ghost use Rattle.def_history.specs.Jobs.{most_jobs};
@@ -7,24 +7,23 @@ ghost use Rattle.def_history.specs.Leaves.{amounts};
 ghost use Rattle.def_history.specs.Packets.{IsPacketOf};
 ghost use Rattle.def_history.specs.JobPackets.{packet_of};
 ghost use Rattle.def_history.specs.JobRows.{leaf_amount};
-ghost use Rattle.def_sums.specs.Limits.{most_root};
-ghost use Rattle.def_tree.specs.Opponent.{opponent};
-ghost use Rattle.def_plan.specs.Form.{player_sets, sequence_count};
-ghost use Rattle.def_plan.specs.FormRows.{player_rows, row_count};
+ghost use Rattle.def_plan.specs.Form.{sequence_count};
+ghost use Rattle.def_plan.specs.FormRows.{row_count};
 ghost use Rattle.xg_jobs.specs.Rows.{AreNumbersOf, ArePlainSums};
 ghost use Rattle.xg_rowcore.specs.Chains.{usual_stripes};
 ghost use Rattle.xg_touched.specs.Touched.{job_rows};
+ghost use Rattle.xg_jobs.specs.Entries.{KeepsGroups, leaves_of_group};
+ghost use Rattle.xg_jobs.specs.Grouping.{weights_in};
 ghost use Rattle.xg_jobs.specs.Groups.{greatest_of};
 ghost use Rattle.xg_jobs.specs.Table.{HasLeavesOf, IsFormOf, IsTableOf, job_table, leaf_table, most_touched};
 
 use crate::cutting::ranges_of;
-use crate::groups::LeafGroups;
-use crate::input::{PlayerInput, RowInput};
+use crate::groups::{LeafGroups, PairGroups};
+use crate::input::RowInput;
 use crate::rows::{Rows, SmallRows};
 use crate::sizes::sums_fit_word;
 use crate::spare::{PAYING_ENTRIES, SpareRows};
 use crate::touching::{most_rows, touched_of};
-use def_tree::Player;
 use std::alloc::{AllocError, Global};
 use std::marker::{Model, Sync};
 use std::thread::Threads;
@@ -130,6 +129,15 @@ impl JobTable {
         self.groups.mass()
     }
 
+    /// The leaves of the form by player one's sequence.
+    pub fn groups(&self) -> PairGroups<'_>
+        ensures kept { KeepsGroups result.starts.now (leaves_of_group result.entries.now) result.others self.now.mass }
+        ensures weights { weights_in result.starts.now (leaves_of_group result.entries.now) result.others
+            ≡ self.now.weights }
+    {
+        self.groups.shown()
+    }
+
     /// A job's first leaf, and the number of its leaves.
     pub fn leaves_of(&self, job: u32) -> (u32, u32)
         requires { job < length self.now.ranges }
@@ -215,53 +223,6 @@ impl JobTable {
             }
         }
         self.groups.write(rt, input, one, two, &mut []);
-        true
-    }
-
-    /// Writes the leaf sum of each sequence of one player against the other player's numbers, in player one's payoff.
-    /// Takes no memory.
-    pub fn write_rows_of(&self, form: &SeqForm, player: Player, against: &[u64], rows: &mut [i128])
-        requires table { HasLeavesOf form.now self.now }
-        requires numbers { length against.now ≡ sequence_count (player_sets form.now (opponent player)) }
-        requires small { All (λ n. n ≤ most_root) against.now }
-        requires count { length rows.old ≡ sequence_count (player_sets form.now player) }
-        ensures { rows.new ≡ player_rows form.now player against.now }
-    {
-        rows.fill(0);
-        let input = PlayerInput {
-            form,
-            player,
-            against,
-        };
-        self.groups.write_alone(&input, rows);
-    }
-
-    /// Writes the same in 64 bits, if it is known that each sum has room in them. Takes no memory.
-    pub fn write_small_rows_of(
-        &self,
-        form: &SeqForm,
-        player: Player,
-        against: &[u64],
-        rows: &mut [i64],
-    ) -> bool
-        requires table { HasLeavesOf form.now self.now }
-        requires numbers { length against.now ≡ sequence_count (player_sets form.now (opponent player)) }
-        requires small { All (λ n. n ≤ most_root) against.now }
-        requires count { length rows.old ≡ sequence_count (player_sets form.now player) }
-        ensures fits { IsTrue result ↔ self.now.mass * greatest_of against.now < 2 ^ 63 }
-        ensures sums { IsTrue result → rows.new ≡ player_rows form.now player against.now }
-        ensures count { length rows.new ≡ length rows.old }
-    {
-        if !sums_fit_word(self.mass(), against, against) {
-            return false;
-        }
-        rows.fill(0);
-        let input = PlayerInput {
-            form,
-            player,
-            against,
-        };
-        self.groups.write_alone(&input, rows);
         true
     }
 }

@@ -1,22 +1,18 @@
 //! All rows from the groups, in either width.
-ghost use Rattle.std.specs.Prelude.{◌≡◌, ℕ, ◌≤◌, All, length, map, pos};
+ghost use Rattle.std.specs.Prelude.{◌≡◌, length, map};
 ghost use Rattle.std.specs.Thread.{IsSync};
-ghost use Rattle.def_sums.specs.Limits.{most_root};
-ghost use Rattle.def_tree.specs.Opponent.{opponent};
-ghost use Rattle.def_plan.specs.Form.{player_sets, sequence_count};
-ghost use Rattle.def_plan.specs.FormRows.{amount_of, player_rows};
+ghost use Rattle.def_plan.specs.Form.{sequence_count};
+ghost use Rattle.def_plan.specs.FormRows.{player_rows};
 ghost use Rattle.def_tree.specs.declared.Player.TheVariants.{One, Two};
 ghost use Rattle.xg_jobs.specs.Rows.{AreNumbersOf};
 ghost use Rattle.xg_jobs.specs.Writing.{CanWrite};
 
-use crate::alone::{spread_groups, sum_groups};
 use crate::entry::GroupEntry;
 use crate::halves::add_by_threads;
-use crate::input::{Groups, PlayerInput, RowInput};
+use crate::input::{Groups, RowInput};
 use crate::roll::Roll;
 use crate::row::Row;
 use crate::spare::THREADS;
-use def_tree::Player;
 use std::marker::{Send, Sync};
 use std::thread::Threads;
 
@@ -53,31 +49,4 @@ pub(crate) fn write_rows<Rt: Threads + Sync, E: GroupEntry + Sync, R: Row + Send
     let roll = Roll::new(if spare.is_empty() { 1 } else { THREADS });
     let looks = entries.len().saturating_mul(2);
     add_by_threads(rt, &groups, &roll, looks, own, other, spare)
-}
-
-/// Writes one player's rows, which begin with 0. Takes no memory.
-pub(crate) fn write_alone<E: GroupEntry, R: Row>(
-    starts: &[u32],
-    entries: &[E],
-    input: &PlayerInput<'_>,
-    rows: &mut [R],
-)
-    requires numbers { length input.now.against.now ≡ sequence_count
-        (player_sets input.now.form.now (opponent input.now.player)) }
-    requires small { All (λ n. n ≤ most_root) input.now.against.now }
-    requires can { CanWrite R.limit starts.now (map E.leaf entries.now) input.now.form.now input.now.against.now
-        input.now.against.now }
-    requires count { length rows.old ≡ sequence_count (player_sets input.now.form.now input.now.player) }
-    requires zeros { (b : ℕ) → amount_of (map R.amount rows.old) b ≡ pos 0 }
-    ensures { map R.amount rows.new ≡ player_rows input.now.form.now input.now.player input.now.against.now }
-{
-    let PlayerInput {
-        player,
-        against,
-        ..
-    } = *input;
-    match player {
-        Player::One => sum_groups(starts, entries, against, rows),
-        Player::Two => spread_groups(starts, entries, against, rows),
-    }
 }

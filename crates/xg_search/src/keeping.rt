@@ -18,6 +18,7 @@ use xg_jobs::JobTable;
 use xg_plan::{Reply, is_plan};
 use xg_reply::best_reply;
 use xg_seq::SeqForm;
+use xg_sides::write_rows_of;
 
 /// The other player.
 pub(crate) fn opponent_of(player: Player) -> Player
@@ -94,7 +95,7 @@ fn work_out(
 {
     form.facts();
     let other = opponent_of(player);
-    jobs.write_rows_of(form, other, numbers, rows);
+    write_rows_of(jobs, form, other, numbers, rows);
     best_reply(form, other, rows, reply);
 }
 

@@ -13,6 +13,7 @@ use crate::weights::Weights;
 use def_tree::Player;
 use xg_jobs::JobTable;
 use xg_seq::SeqForm;
+use xg_sides::{write_rows_of, write_small_rows_of};
 
 /// How regrets of earlier rounds count beside the newest one.
 #[derive(Clone, Copy)]
@@ -61,14 +62,11 @@ impl Turn<'_> {
         ensures { IsRoomOf self.now.form.now player room.new }
     {
         let numbers = against.all();
-        if self
-            .jobs
-            .write_small_rows_of(self.form, player, numbers, &mut room.small_rows)
-        {
+        let Turn { form, jobs, .. } = *self;
+        if write_small_rows_of(jobs, form, player, numbers, &mut room.small_rows) {
             take_small_rows(player, &room.small_rows, self.shift, &mut room.worths);
         } else {
-            self.jobs
-                .write_rows_of(self.form, player, numbers, &mut room.rows);
+            write_rows_of(jobs, form, player, numbers, &mut room.rows);
             take_rows(player, &room.rows, self.shift, &mut room.worths);
         }
     }

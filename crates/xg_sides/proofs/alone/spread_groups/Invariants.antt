@@ -1,7 +1,7 @@
 use Rattle.std.proofs.Common.{◌≡◌, ℕ, ◌+ℤ◌, map}
 use Rattle.def_plan.specs.FormRows.{amount_of}
 use Rattle.xg_jobs.specs.Groups.{parts_sum}
-use Rattle.xg_jobs.proofs.alone.spread_groups.Given as goal
+use Rattle.xg_sides.proofs.alone.spread_groups.Given as goal
 
 abbrev pub ghost-add_parts : goal.ghost-add_parts
 ghost-add_parts g a = g.most

@@ -1,7 +1,7 @@
 use Rattle.std.proofs.Common.{◌≡◌, ℕ, ◌<◌, map}
 use Rattle.def_plan.specs.FormRows.{amount_of}
 use Rattle.xg_jobs.specs.Groups.{group_at, group_sum}
-use Rattle.xg_jobs.proofs.alone.sum_groups.Given as goal
+use Rattle.xg_sides.proofs.alone.sum_groups.Given as goal
 
 abbrev pub ghost-sum_group : goal.ghost-sum_group
 ghost-sum_group g a = g.most

@@ -3,8 +3,8 @@ use Rattle.def_plan.specs.FormRows.{amount_of}
 use Rattle.xg_jobs.specs.Groups.{GroupLeaf, group_at}
 use Rattle.xg_jobs.proofs.GroupSums.{group_map}
 use Rattle.xg_jobs.proofs.Parts.{room_left, row_after, row_untouched}
-use Rattle.xg_jobs.proofs.alone.spread_groups.Goals as goal
-use Rattle.xg_jobs.proofs.alone.spread_groups.Goals.{then-one-s-ne0, else-one-s-ne0}
+use Rattle.xg_sides.proofs.alone.spread_groups.Goals as goal
+use Rattle.xg_sides.proofs.alone.spread_groups.Goals.{then-one-s-ne0, else-one-s-ne0}
 
 pub add_parts-requires : goal.add_parts-requires
 add_parts-requires g c κs within =

@@ -1,6 +1,6 @@
 use Rattle.std.proofs.Common.{rules, arith}
 use Rattle.xg_jobs.proofs.PassOverGroup.{comes_to, listed, product_fits, row_fits, rows_after}
-use Rattle.xg_jobs.proofs.alone.add_parts.Goals as goal
+use Rattle.xg_sides.proofs.alone.add_parts.Goals as goal
 
 pub add_product-requires : goal.add_product-requires
 add_product-requires g c =

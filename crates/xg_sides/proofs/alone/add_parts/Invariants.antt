@@ -1,7 +1,7 @@
 use Rattle.std.proofs.Common.{◌≡◌, ℕ, ◌+ℤ◌, take, map}
 use Rattle.def_plan.specs.FormRows.{amount_of}
 use Rattle.xg_jobs.specs.Groups.{group_part}
-use Rattle.xg_jobs.proofs.alone.add_parts.Given as goal
+use Rattle.xg_sides.proofs.alone.add_parts.Given as goal
 
 -- each row has what the leaves up to here add to it
 abbrev pub invariant-loop-e : goal.invariant-loop-e

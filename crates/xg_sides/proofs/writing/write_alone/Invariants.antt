@@ -1,5 +1,5 @@
 use Rattle.xg_jobs.specs.Groups.{greatest_of}
-use Rattle.xg_jobs.proofs.writing.write_alone.Given as goal
+use Rattle.xg_sides.proofs.writing.write_alone.Given as goal
 
 abbrev pub ghost-sum_groups : goal.ghost-sum_groups
 ghost-sum_groups g a = greatest_of a.two.now

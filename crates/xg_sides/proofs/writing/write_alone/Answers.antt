@@ -4,8 +4,9 @@ use Rattle.def_tree.specs.Opponent.{opponent}
 use Rattle.def_plan.specs.Form.{SequenceForm, player_sets, sequence_count}
 use Rattle.def_plan.specs.FormRows.{player_rows}
 use Rattle.xg_jobs.specs.Groups.{GroupLeaf, parts_sum}
-use Rattle.xg_jobs.proofs.FormRows.{can_pass, from_zero, other_rows, own_rows, pass_room}
-use Rattle.xg_jobs.proofs.writing.write_alone.Goals as goal
+use Rattle.xg_jobs.proofs.FormRows.{from_zero, other_rows, own_rows}
+use Rattle.xg_sides.proofs.Passing.{can_pass, pass_room}
+use Rattle.xg_sides.proofs.writing.write_alone.Goals as goal
 
 pub sum_groups-requires : goal.sum_groups-requires
 sum_groups-requires g c κs within =

@@ -5,9 +5,7 @@ ghost use Rattle.def_sums.specs.Limits.{past_number};
 ghost use Rattle.def_plan.specs.FormRows.{amount_of};
 ghost use Rattle.xg_jobs.specs.Groups.{group_at, group_mass, group_part, group_sum, groups_mass, parts_sum};
 
-use crate::both::sum_group;
-use crate::entry::GroupEntry;
-use crate::row::{Row, add_product, put};
+use xg_jobs::{GroupEntry, Row, add_product, put, sum_group};
 
 /// Writes the sum of each group against player two's numbers.
 pub(crate) fn sum_groups<E: GroupEntry, R: Row>(

@@ -4,7 +4,7 @@ use Rattle.std.proofs.Math.Nat.{mul-le-mul_right}
 use Rattle.xg_jobs.specs.Groups.{GroupLeaf, group_at, group_mass, group_sum, groups_mass}
 use Rattle.xg_jobs.proofs.GroupSums.{group_map}
 use Rattle.xg_jobs.proofs.Parts.{mass_upto}
-use Rattle.xg_jobs.proofs.alone.sum_groups.Goals as goal
+use Rattle.xg_sides.proofs.alone.sum_groups.Goals as goal
 
 pub sum_group-requires : goal.sum_group-requires
 sum_group-requires g c κs within =
