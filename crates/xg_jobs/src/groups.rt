@@ -6,8 +6,8 @@ ghost use Rattle.def_tree.specs.declared.Player.TheVariants.{One, Two};
 ghost use Rattle.def_plan.specs.Form.{sequence_count};
 ghost use Rattle.def_plan.specs.FormRows.{player_rows};
 ghost use Rattle.def_plan.specs.Payoff.{mass_of};
-ghost use Rattle.xg_jobs.specs.Entries.{AreGroupsOf, KeepsGroups, leaves_of_group};
-ghost use Rattle.xg_jobs.specs.Grouping.{pair_weights, weights_in};
+ghost use Rattle.xg_jobs.specs.Entries.{AreGroupsOf};
+ghost use Rattle.xg_jobs.specs.Grouping.{pair_weights};
 ghost use Rattle.xg_jobs.specs.Groups.{greatest_of};
 ghost use Rattle.xg_jobs.specs.Merging.{HasRoomUpTo};
 ghost use Rattle.xg_jobs.specs.Rows.{AreNumbersOf};
@@ -30,12 +30,12 @@ use xg_seq::SeqForm;
 #[derive(Drop)]
 pub(crate) struct LeafGroups {
     // where each sequence's group begins, and behind them where the last one ends
-    starts: Vec<u32>,
-    entries: GroupEntries,
+    pub(crate) starts: Vec<u32>,
+    pub(crate) entries: GroupEntries,
     // how many sequences player two has
-    others: u32,
+    pub(crate) others: u32,
     // the sizes of the weights of all leaves together, which those of the entries are within
-    mass: u64,
+    pub(crate) mass: u64,
 }
 
 /// The leaves of each of player one's sequences, as they stand.
@@ -96,26 +96,6 @@ impl LeafGroups {
             others: form.sequence_count(Player::Two),
             mass,
         })
-    }
-
-    /// The sizes of the weights of all leaves together.
-    pub(crate) fn mass(&self) -> u64
-        ensures { result ≡ self.now.mass }
-    {
-        self.mass
-    }
-
-    /// The groups themselves.
-    pub(crate) fn shown(&self) -> PairGroups<'_>
-        ensures kept { KeepsGroups result.starts.now (leaves_of_group result.entries.now) result.others self.now.mass }
-        ensures weights { weights_in result.starts.now (leaves_of_group result.entries.now) result.others
-            ≡ self.now.weights }
-    {
-        PairGroups {
-            starts: &self.starts,
-            entries: &self.entries,
-            others: self.others,
-        }
     }
 
     /// How many entries the groups have.

@@ -126,7 +126,7 @@ impl JobTable {
     pub fn mass(&self) -> u64
         ensures { result ≡ self.now.mass }
     {
-        self.groups.mass()
+        self.groups.mass
     }
 
     /// The leaves of the form by player one's sequence.
@@ -135,7 +135,11 @@ impl JobTable {
         ensures weights { weights_in result.starts.now (leaves_of_group result.entries.now) result.others
             ≡ self.now.weights }
     {
-        self.groups.shown()
+        PairGroups {
+            starts: &self.groups.starts,
+            entries: &self.groups.entries,
+            others: self.groups.others,
+        }
     }
 
     /// A job's first leaf, and the number of its leaves.
