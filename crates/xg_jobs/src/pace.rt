@@ -5,9 +5,9 @@
 /// processors are busy.
 #[derive(Clone, Copy)]
 pub(crate) struct Pace {
-    saved: u32,
-    pause: u32,
-    left: u32,
+    pub(crate) saved: u32,
+    pub(crate) pause: u32,
+    pub(crate) left: u32,
 }
 
 /// How many punctual starts save what a late one costs.
@@ -20,15 +20,6 @@ const MOST_SAVED: u32 = 24;
 const LONGEST_PAUSE: u32 = 255;
 
 impl Pace {
-    /// Threads are started at once, of which nothing is known yet.
-    pub(crate) fn new() -> Pace {
-        Pace {
-            saved: 0,
-            pause: 0,
-            left: 0,
-        }
-    }
-
     /// Whether threads are to be started this time.
     pub(crate) fn is_due(&mut self) -> bool {
         if self.left == 0 {

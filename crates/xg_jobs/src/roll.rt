@@ -4,18 +4,11 @@ use std::sync::atomic::{AtomicU64, Ordering};
 /// How many of some parts are done, as the threads that do them say.
 #[derive(Drop)]
 pub(crate) struct Roll {
-    parts: u64,
-    done: AtomicU64,
+    pub(crate) parts: u64,
+    pub(crate) done: AtomicU64,
 }
 
 impl Roll {
-    pub(crate) fn new(parts: u64) -> Roll {
-        Roll {
-            parts,
-            done: AtomicU64::new(0),
-        }
-    }
-
     /// Says that one more part is done.
     pub(crate) fn sign(&self) {
         self.done.fetch_add(1, Ordering::SeqCst);

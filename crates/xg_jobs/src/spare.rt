@@ -27,7 +27,12 @@ impl SpareRows {
         Ok(SpareRows {
             rows: vec![in alloc; 0; rows]?,
             for_players: pays && one + two >= PAYING_SEQUENCES,
-            pace: Pace::new(),
+            // threads are started at once, of which nothing is known yet
+            pace: Pace {
+                saved: 0,
+                pause: 0,
+                left: 0,
+            },
         })
     }
 }

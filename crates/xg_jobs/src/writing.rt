@@ -14,6 +14,7 @@ use crate::roll::Roll;
 use crate::row::Row;
 use crate::spare::THREADS;
 use std::marker::{Send, Sync};
+use std::sync::atomic::AtomicU64;
 use std::thread::Threads;
 
 /// Writes the rows of both players by one pass over player one's groups: by four threads if there is spare room for
@@ -46,7 +47,10 @@ pub(crate) fn write_rows<Rt: Threads + Sync, E: GroupEntry + Sync, R: Row + Send
         one,
         two,
     };
-    let roll = Roll::new(if spare.is_empty() { 1 } else { THREADS });
+    let roll = Roll {
+        parts: if spare.is_empty() { 1 } else { THREADS },
+        done: AtomicU64::new(0),
+    };
     let looks = entries.len().saturating_mul(2);
     add_by_threads(rt, &groups, &roll, looks, own, other, spare)
 }
