@@ -6,8 +6,9 @@ use crate::made::build_form;
 use std::alloc::{AllocError, Global};
 use std::process::Abort;
 use std::test::Fail;
-use xg_plan::{Plan, Play, Player, Reply, bad_set, from_play, shares_into};
+use xg_plan::{Plan, Play, Player, Reply, bad_set, from_play};
 use xg_seq::SeqForm;
+use xg_shares::shares_into;
 use xg_test_data::nodes::{ONE_OF_THREE, ONE_OF_THREE_WEIGHTS, PENNIES, PENNIES_WEIGHTS};
 
 fn crosses_threads<T: Send + Sync>() {}

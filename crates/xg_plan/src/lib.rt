@@ -1,6 +1,6 @@
 #![tactic(auto)]
-//! Strategies in whole numbers: plans, plays and replies, shares, the plan that a play deals, sums of plans, and the
-//! test of a plan.
+//! Strategies in whole numbers: plans, plays and replies, the plan that a play deals, sums of plans, and the test of a
+//! plan.
 
 mod adding;
 mod checking;
@@ -8,7 +8,6 @@ mod dealing;
 mod plan;
 mod play;
 mod reply;
-mod shares;
 
 pub use adding::{add_times, add_to};
 pub use checking::{bad_set, is_plan};
@@ -17,4 +16,3 @@ pub use def_tree::Player;
 pub use plan::Plan;
 pub use play::Play;
 pub use reply::Reply;
-pub use shares::shares_into;

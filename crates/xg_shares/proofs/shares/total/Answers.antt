@@ -1,8 +1,9 @@
 use Rattle.std.proofs.Common.{◌≡◌, ◌+◌, List, ap, arith, length, map, unsigned_abs, ℕ}
 use Rattle.def_round.specs.Shares.{prefix_sum}
 use Rattle.def_round.proofs.SharesLaws.{prefix-all, prefix-more}
-use Rattle.xg_plan.proofs.ShareLemmas.{length-sizes, prefix-within}
-use Rattle.xg_plan.proofs.shares.total.Goals as goal
+use Rattle.xg_plan.proofs.ShareLemmas.{prefix-within}
+use Rattle.xg_shares.proofs.SizeShares.{length-sizes}
+use Rattle.xg_shares.proofs.shares.total.Goals as goal
 
 pub overflow_add-sum : goal.overflow_add-sum
 overflow_add-sum c =

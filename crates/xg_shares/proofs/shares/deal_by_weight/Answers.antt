@@ -1,7 +1,8 @@
 use Rattle.std.proofs.Common.{◌≡◌, ◌+◌, ◌∙◌, List, arith, map, unsigned_abs, ℕ}
 use Rattle.def_round.specs.Shares.{prefix_share}
-use Rattle.xg_plan.proofs.ShareLemmas.{DealStep, dealt_is_shares, dealt_more, length-sizes, step_of}
-use Rattle.xg_plan.proofs.shares.deal_by_weight.Goals as goal
+use Rattle.xg_plan.proofs.ShareLemmas.{DealStep, dealt_is_shares, dealt_more, step_of}
+use Rattle.xg_shares.proofs.SizeShares.{length-sizes}
+use Rattle.xg_shares.proofs.shares.deal_by_weight.Goals as goal
 
 step_at : (c : goal.After-weight_at-weight)
     → DealStep c.args.n (map unsigned_abs c.args.weights.now) c.loop-i.i (c.loop-i.weight_upto + c.weight_at-weight.result) c.args.sum

@@ -1,6 +1,6 @@
 use Rattle.std.proofs.Common.{◌≡◌, ◌*◌, ◌+◌, ◌/◌, ap, arith, length, map, replicate, rules, unsigned_abs}
-use Rattle.xg_plan.proofs.ShareLemmas.{even_is_shares, length-sizes, no_shares}
-use Rattle.xg_plan.proofs.shares.shares_into.Goals as goal
+use Rattle.xg_shares.proofs.SizeShares.{even_is_shares, length-sizes, no_shares}
+use Rattle.xg_shares.proofs.shares.shares_into.Goals as goal
 
 pub returns-then-n-eq0 : goal.returns-then-n-eq0
 returns-then-n-eq0 c =
