@@ -18,7 +18,6 @@ use Rattle.xg_batch.specs.declared.item.Item.{Item}
 use Rattle.xg_batch.specs.declared.item.Item.TheVariants.{Solved, Refused}
 use Rattle.xg_batch.specs.declared.batch_text.Part.{Part}
 use Rattle.xg_batch.specs.declared.batch_text.Part.TheVariants.{Game, Fault}
-use Rattle.xg_batch.specs.declared.played_text.PlayedText.{PlayedText}
 
 -- the text of what rounds of a variant left
 abbrev pub left_text : Variant → SequenceForm → Outcome → List ℕ
@@ -61,8 +60,3 @@ parts_bytes number (part ∷ parts) = (file_line number ++ part_bytes part) ++ p
 pub record IsTextPart (item : Item) (part : Part) : Type 0 where
   pub bytes : part_bytes part ≡ item_shown item
   pub writable : CanWritePart part
-
--- the same of the text of an engine's game
-pub record IsTextOfEngine (engine : EngineState) (text : PlayedText) : Type 0 where
-  pub bytes : left_text text.variant text.form.now text.outcome.now ≡ left_shown engine.game.form engine.outcome
-  pub writable : IsOutcomeOf text.form.now text.outcome.now

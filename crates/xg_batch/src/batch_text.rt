@@ -4,14 +4,14 @@ ghost use Rattle.std.specs.List.{AllZip};
 ghost use Rattle.def_outside.specs.Cause.{HasCause};
 ghost use Rattle.def_outside.specs.Sinks.{Writes};
 ghost use Rattle.def_program.specs.BatchText.{file_line};
-ghost use Rattle.xg_batch.specs.Texts.{CanBeShown, CanWritePart, HasOutcome, IsTextPart, IsTextOfEngine, part_bytes};
+ghost use Rattle.xg_batch.specs.Texts.{CanBeShown, CanWritePart, IsTextPart, part_bytes};
 ghost use Rattle.xg_batch.specs.Texts.{parts_bytes};
 
 use crate::item::Item;
 use crate::played_text::PlayedText;
 use itoa::Buffer;
 use std::alloc::{AllocError, Global};
-use xg_engine::{Engine, Variant};
+use xg_engine::Variant;
 use xg_io::{Sink, Writable, WriteFault, write_all};
 use xg_load::fault_line;
 
@@ -62,23 +62,15 @@ fn part_of<'a>(alloc: Global, item: &'a Item) -> Result<Part<'a>, AllocError>
     ensures { IfOk result (IsTextPart item.now) }
 {
     match item {
-        Item::Solved(engine) => Ok(Part::Game(game_text(engine))),
-        Item::Refused(fault) => Ok(Part::Fault(fault_line(alloc, *fault)?)),
-    }
-}
-
-/// The text of what the rounds left.
-fn game_text(engine: &Engine) -> PlayedText<'_>
-    requires { HasOutcome engine.now }
-    ensures { IsTextOfEngine engine.now result }
-{
-    match engine.outcome() {
-        Some(outcome) => PlayedText {
-            variant: Variant::Plain,
-            form: engine.form(),
-            outcome,
+        Item::Solved(engine) => match engine.outcome() {
+            Some(outcome) => Ok(Part::Game(PlayedText {
+                variant: Variant::Plain,
+                form: engine.form(),
+                outcome,
+            })),
+            None => unreachable!(),
         },
-        None => unreachable!(),
+        Item::Refused(fault) => Ok(Part::Fault(fault_line(alloc, *fault)?)),
     }
 }
 
