@@ -25,7 +25,6 @@ use xg_engine::{Engine, Settings, Variant, head_with};
 use xg_io::{Gate, Sink};
 use xg_jobs::{JobTable, PlainRows, RowInput, Rows, ThreadedRows};
 use xg_load::{AcceptedGame, Ending};
-use xg_numbers::Numbers;
 
 /// Plays the rounds that are asked, and writes the text of what they leave.
 pub fn play<Rt: Threads + Wait + Sync, O: Sink, G: Gate>(
@@ -45,7 +44,9 @@ pub fn play<Rt: Threads + Wait + Sync, O: Sink, G: Gate>(
 {
     if settings.rounds == 0 {
         let numbers = accepted.into_numbers();
-        let ending = write_unplayed(alloc, &numbers, variant, settings, out);
+        let outcome = Outcome::new(head_with(&numbers, settings), Vec::new(alloc), None);
+        let ending = write_outcome(variant, numbers.form(), &outcome, out);
+        drop(outcome);
         drop(numbers);
         return ending;
     }
@@ -138,22 +139,4 @@ fn play_threaded<Rt: Threads + Wait + Sync>(
     let played = engine.run_variant(rt, alloc, variant, settings, &maker);
     drop(maker);
     played
-}
-
-/// Writes the text where no rounds are asked.
-fn write_unplayed<O: Sink>(
-    alloc: Global,
-    numbers: &Numbers,
-    variant: Variant,
-    settings: Settings,
-    out: &mut O,
-) -> Ending
-    requires { settings.rounds ≡ 0 }
-    ensures { (game : GameFile) → numbers.now ≡ weighed_game game
-        → Tells (played_text variant game settings) (sink_call O.Sink out.old out.new) result }
-{
-    let outcome = Outcome::new(head_with(numbers, settings), Vec::new(alloc), None);
-    let ending = write_outcome(variant, numbers.form(), &outcome, out);
-    drop(outcome);
-    ending
 }
