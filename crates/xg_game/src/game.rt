@@ -67,7 +67,19 @@ impl Game {
     pub fn into_tree(self) -> Tree
         ensures { result ≡ self.tree }
     {
-        self.tree
+        let Game {
+            prologue,
+            tree,
+            names,
+            sets,
+            outcomes,
+        } = self;
+        // By a call each: what the end of a function drops has code of its own for each table.
+        drop(prologue);
+        drop(names);
+        drop(sets);
+        drop(outcomes);
+        tree
     }
 
     /// The tree of the game's nodes.
