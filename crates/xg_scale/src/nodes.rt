@@ -7,7 +7,7 @@ ghost use Rattle.def_game_numbers.specs.Numbers.{tables_of};
 ghost use Rattle.def_game_paths.specs.Paths.{visits};
 ghost use Rattle.def_game_scale.specs.Tables.{AreFractions, payoffs_of};
 ghost use Rattle.xg_scale.specs.FaultOfFile.{RefusesBy};
-ghost use Rattle.xg_scale.specs.OnPath.{HasNodeAround, chance_set_of, entered_node};
+ghost use Rattle.xg_scale.specs.OnPath.{HasNodeAround, entered_node};
 ghost use Rattle.xg_scale.specs.Walked.{HasEntered, HasLeft, IsBefore, IsExpectedOf, MayCome, MayComeNext, all_fit};
 ghost use Rattle.xg_scale.specs.Walked.{next_fault, numbers_below, paid_to, reach_below};
 
@@ -139,20 +139,14 @@ impl<'a> PathWalk<'a> {
 fn before_children(node: Node, numbers: PathNumbers) -> NodeOnPath
     ensures { result ≡ entered_node node numbers }
 {
-    NodeOnPath {
-        chance_set: chance_set(node),
-        action: 1,
-        numbers,
-    }
-}
-
-#[inline(always)]
-fn chance_set(node: Node) -> Option<u32>
-    ensures { result ≡ chance_set_of node }
-{
-    match node.kind {
+    let chance_set = match node.kind {
         Kind::Chance => Some(node.set),
         _ => None,
+    };
+    NodeOnPath {
+        chance_set,
+        action: 1,
+        numbers,
     }
 }
 

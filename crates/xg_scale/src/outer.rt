@@ -1,6 +1,5 @@
 //! The nodes around the one that a walk stands at.
 ghost use Rattle.std.specs.Prelude.{◌≡◌, [], ◌∷◌, IfSome, IsNone, IsTrue, OnOk};
-ghost use Rattle.xg_scale.specs.Outer.{numbers_after, others_after};
 
 use crate::path::{NodeOnPath, PathNumbers, empty_path};
 use std::alloc::{AllocError, Global};
@@ -121,25 +120,16 @@ impl FartherPath {
     {
         let step = self.steps.pop()?;
         let numbers = self.numbers;
-        if step.is_new {
-            take_next(&mut self.numbers, &mut self.further);
+        if step.is_new
+            && let Some(next) = self.further.pop()
+        {
+            self.numbers = next;
         }
         Some(NodeOnPath {
             chance_set: step.chance_set,
             action: step.action,
             numbers,
         })
-    }
-}
-
-/// Puts the next further numbers in place of these.
-#[inline(always)]
-fn take_next(numbers: &mut PathNumbers, further: &mut Ancestors<PathNumbers>)
-    ensures next { numbers.new ≡ numbers_after numbers.old further.old }
-    ensures others { further.new ≡ others_after further.old }
-{
-    if let Some(next) = further.pop() {
-        *numbers = next;
     }
 }
 

@@ -88,6 +88,10 @@ fn weigh_exactly(alloc: Global, game: &Game) -> Result<Weights, Refused>
     check_sets(game, SetTest::Signs)?;
     check_sets(game, SetTest::Sums)?;
     let expected = expect(alloc, game)?;
-    check_whole_sum(game, &expected)?;
-    weigh_leaves(alloc, game, &expected)
+    let weights = match check_whole_sum(game, &expected) {
+        Ok(()) => weigh_leaves(alloc, game, &expected),
+        Err(fault) => Err(Refused::File(fault)),
+    };
+    drop(expected);
+    weights
 }
