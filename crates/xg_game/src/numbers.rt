@@ -7,6 +7,7 @@ use crate::seed::Seed;
 use indexmap::IndexMap;
 use std::alloc::{AllocError, Global};
 use std::marker::Model;
+use std::mem::replace;
 
 /// How many places an array of marks may have for each number, and how many beside them.
 const PLACES_EACH: u64 = 4;
@@ -135,7 +136,8 @@ fn set_mark(
         return set_near(near, number as usize, mark);
     }
     if far.is_empty() {
-        *far = IndexMap::with_hasher(alloc, Seed::of(file));
+        let empty = replace(far, IndexMap::with_hasher(alloc, Seed::of(file)));
+        drop(empty);
     }
     far.insert(number, mark)?;
     Ok(())

@@ -114,7 +114,10 @@ impl<D: Copy> NumberTable<D> {
     {
         self.known.reserve(1)?;
         let name = to_keep(alloc, name)?;
-        self.numbers.push(alloc, file, number)?;
+        if let Err(error) = self.numbers.push(alloc, file, number) {
+            drop(name);
+            return Err(error);
+        }
         self.known.push_reserved(Described { name, value });
         Ok(())
     }

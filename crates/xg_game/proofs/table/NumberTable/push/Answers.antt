@@ -18,5 +18,5 @@ pub returns-clause-ok : goal.returns-clause-ok
 returns-clause-ok g c =
     pushed c.self.inside.numbers c.push.new.self c.self.inside.known.items c.reserve.new.self.items c.push_reserved.new.self.items c.args.self.now c.args.number
     (record { name = c.in_ok-name.name; value = c.args.value }) c.self.invariant
-    c.in_ok-push.ensures.ok c.reserve.ensures.items c.push_reserved.ensures.items c.self.view_is
+    c.in_default.ensures.ok c.reserve.ensures.items c.push_reserved.ensures.items c.self.view_is
     ∙ ap (λ (name : Option (List ℕ)). c.args.self.now ++ (c.args.number, record { name = name; value = c.args.value }) ∷ []) c.in_ok-name.ensures
