@@ -56,7 +56,9 @@ impl<'a> Reader<'a> {
                 return Ok(());
             }
             let action = self.action(kind)?;
-            actions.push(action)?;
+            let Ok(()) = actions.push(action) else {
+                return Err(Refused::NoMemory);
+            };
         }
         Err(Refused::File(FileFault::UnexpectedEnd))
     }
@@ -114,7 +116,9 @@ impl<'a> Reader<'a> {
                 return Ok(());
             }
             let payoff = self.payoff(payoffs)?;
-            payoffs.push(payoff)?;
+            let Ok(()) = payoffs.push(payoff) else {
+                return Err(Refused::NoMemory);
+            };
         }
         Err(Refused::File(FileFault::UnexpectedEnd))
     }

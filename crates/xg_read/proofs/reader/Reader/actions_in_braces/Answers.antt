@@ -10,5 +10,5 @@ actions-preserved c =
       rest = c.actions.invariant.rest ∙ actions_next c.args.kind (length whole - c.actions.counter) (length whole - (c.actions.counter + 1)) c.actions.actions
           c.push.new.self
           whole c.actions.self.whole c.actions.self.at c.action.new.self.at _ c.actions.invariant.whole (omega arith) (sym c.comes.ensures ∙ c.if-comes.false)
-          c.in_ok-action.ensures.exact c.in_ok-push.ensures.ok;
+          c.in_ok-action.ensures.exact c.in-Ok.ensures.ok;
     }

@@ -10,5 +10,5 @@ payoffs-preserved c =
       rest = c.payoffs.invariant.rest ∙ payoffs_next (length whole - c.payoffs.counter) (length whole - (c.payoffs.counter + 1)) c.payoffs.payoffs
           c.push.new.self
           whole c.payoffs.self.whole c.payoffs.self.at c.payoff.new.self.at _ c.payoffs.invariant.whole (omega arith) (sym c.comes.ensures ∙ c.if-comes.false)
-          c.in_ok-payoff.ensures.exact c.in_ok-push.ensures.ok;
+          c.in_ok-payoff.ensures.exact c.in-Ok.ensures.ok;
     }
