@@ -50,11 +50,13 @@ impl Fractions {
     pub(crate) fn push(&mut self, f: Frac) -> Result<(), AllocError>
         ensures { OnOk result (self.new ≡ self.old ++ f ∷ []) }
     {
-        self.nums.push(f.num() as i64)?;
-        if let Err(error) = self.dens.push(denominator(f)) {
+        let Ok(()) = self.nums.push(f.num() as i64) else {
+            return Err(AllocError);
+        };
+        let Ok(()) = self.dens.push(denominator(f)) else {
             self.nums.pop();
-            return Err(error.into());
-        }
+            return Err(AllocError);
+        };
         Ok(())
     }
 

@@ -14,8 +14,8 @@ returns c =
     let wide : unsigned_abs c.num.result < 2 ^ 127 = omega (arith, c.num.ensures.size) in
     let num = ap (λ n. to_z w64 (of_z w64 n)) (to_z-of_z w128 c.num.result (fits_signed_from_abs w128 c.num.result wide))
     ∙ to_z-of_z w64 c.num.result (fits_signed_from_abs w64 c.num.result short) ∙ c.num.ensures.value in
-    let nums = c.in_ok-push.ensures.items ∙ ap (λ n. old_nums ++ n ∷ []) num in
-    let dens = c.in_default.ensures.items ∙ ap (λ d. old_dens ++ d ∷ []) c.denominator.ensures.value in
+    let nums = c.in-Ok.ensures.items ∙ ap (λ n. old_nums ++ n ∷ []) num in
+    let dens = c.in-Ok-push.ensures.items ∙ ap (λ d. old_dens ++ d ∷ []) c.denominator.ensures.value in
     (λ i. fractions_of (nums i) (dens i))
     ∙ fraction_more old_nums old_dens c.args.f.num c.args.f.den c.self.invariant
     ∙ ap (λ fs. fs ++ c.args.f ∷ []) c.self.view_is
