@@ -33,7 +33,9 @@ impl NextNodes {
     pub(crate) fn put(&mut self) -> Result<(), AllocError>
         ensures { OnOk result (self.new ≡ self.old ++ None ∷ []) }
     {
-        self.numbers.push(0)?;
+        let Ok(()) = self.numbers.push(0) else {
+            return Err(AllocError);
+        };
         Ok(())
     }
 

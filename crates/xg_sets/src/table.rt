@@ -52,7 +52,9 @@ impl FoundSets {
     pub(crate) fn put(&mut self, sequence: u32) -> Result<(), AllocError>
         ensures { OnOk result (self.new ≡ record self.old { at_nodes = self.old.at_nodes ++ sequence ∷ [] }) }
     {
-        self.at_nodes.push(sequence)?;
+        let Ok(()) = self.at_nodes.push(sequence) else {
+            return Err(AllocError);
+        };
         Ok(())
     }
 
@@ -92,7 +94,9 @@ impl FoundSets {
         ensures { BeginsSet self.old k node before self.new result }
     {
         let first = self.next;
-        self.rows.reserve(1)?;
+        let Ok(()) = self.rows.reserve(1) else {
+            return Err(RecallFault::NoMemory);
+        };
         self.rows.push_reserved(FoundSet {
             first,
             before,
