@@ -150,7 +150,9 @@ fn set_near(near: &mut Vec<u32>, at: usize, mark: u32) -> Result<(), AllocError>
     ensures err { OnErr result (near.new.items ≡ near.old.items) }
 {
     if at >= near.len() {
-        near.resize(at + 1, 0)?;
+        let Ok(()) = near.resize(at + 1, 0) else {
+            return Err(AllocError);
+        };
     }
     near[at] = mark;
     Ok(())
