@@ -185,9 +185,15 @@ impl FoundTables {
             },
             Kind::Chance | Kind::Leaf => at,
         };
-        self.one.put(at.one)?;
-        self.two.put(at.two)?;
-        self.next_nodes.put()?;
+        let Ok(()) = self.one.put(at.one) else {
+            return Err(RecallFault::NoMemory);
+        };
+        let Ok(()) = self.two.put(at.two) else {
+            return Err(RecallFault::NoMemory);
+        };
+        let Ok(()) = self.next_nodes.put() else {
+            return Err(RecallFault::NoMemory);
+        };
         Ok(below)
     }
 }

@@ -48,7 +48,7 @@ returns-in_err-note-in-Two-clause-err c =
     let p = err_from_is_err_and c.from_residual-in_err-note-in-Two.result c.from_residual-in_err-note-in-Two.ensures.1 in rw (p.1, p.2) found
 
 -- in each arm: both tables once the sequences are put, and the sequences at the first child
-module _ (c : goal.In_ok-put-3) where
+module _ (c : goal.In-Ok-put-2) where
   abbrev Noted : FoundTables → Sequences → Type 0
   Noted tables below = AreTablesOf c.args.tree.now (c.args.k + 1) (put tables.one c.args.at.one) (put tables.two c.args.at.two) (tables.next_nodes ++ None ∷ [])
       × AreAtFirstChild c.args.tree.now (visit_after c.args.tree.now c.args.k) below
@@ -76,10 +76,10 @@ module _ (c : goal.In_ok-put-3) where
 
 pub returns-clause-tables : goal.returns-clause-tables
 returns-clause-tables c =
-    subst (λ one. AreTablesOf c.args.tree.now (c.args.k + 1) one c.put-2.new.self c.put-3.new.self) (sym c.in_ok-put.ensures)
-    (subst (λ two. AreTablesOf c.args.tree.now (c.args.k + 1) (put c.match-node.self.one c.args.at.one) two c.put-3.new.self) (sym c.in_ok-put-2.ensures)
+    subst (λ one. AreTablesOf c.args.tree.now (c.args.k + 1) one c.put-2.new.self c.put-3.new.self) (sym c.in-Ok.ensures)
+    (subst (λ two. AreTablesOf c.args.tree.now (c.args.k + 1) (put c.match-node.self.one c.args.at.one) two c.put-3.new.self) (sym c.in-Ok-put.ensures)
     (subst (λ next. AreTablesOf c.args.tree.now (c.args.k + 1) (put c.match-node.self.one c.args.at.one) (put c.match-node.self.two c.args.at.two) next)
-    (sym c.in_ok-put-3.ensures) (noted c).0))
+    (sym c.in-Ok-put-2.ensures) (noted c).0))
 
 pub returns-clause-below : goal.returns-clause-below
 returns-clause-below c = (noted c).1
