@@ -11,7 +11,7 @@ pub const MOST_FILES: usize = 16;
 ///
 /// There are 0 to 65,536 plain rounds, `every` is from 1 to 65,536, and the scale is from 1 to 1,048,576. Of rounds of
 /// CFR+ there are at most 2,048, and their scale is at most 16,384.
-#[derive(Clone, Copy, PartialEq, Eq)]
+#[derive(Clone, Copy)]
 pub struct Settings {
     pub rounds: u32,
     pub every: u32,
@@ -19,7 +19,7 @@ pub struct Settings {
 }
 
 /// The rows that the workers of a run add into.
-#[derive(Clone, Copy, PartialEq, Eq)]
+#[derive(Clone, Copy)]
 pub struct RowSettings {
     /// The number of workers, from 1 to 64, where one is given.
     pub workers: Option<u32>,

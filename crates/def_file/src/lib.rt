@@ -8,7 +8,7 @@ use def_fraction::NumberFault;
 pub const MOST_BYTES: usize = 67_108_864;
 
 /// The first fault of a game file. Offsets count bytes from 0, and nodes count entries from 1.
-#[derive(Clone, Copy, PartialEq, Eq)]
+#[derive(Clone, Copy)]
 pub enum FileFault {
     /// The file has more than 67,108,864 bytes.
     TooLong,

@@ -8,6 +8,7 @@ use std::thread::Threads;
 use xg_batch::{Entry, Item};
 use xg_engine::Engine;
 use xg_io::{Gate, OpenGate};
+use xg_test_data::is_same_fault;
 
 /// Whether a game has these sums of plans.
 pub fn has_sums(engine: &Engine, one: &[u64], two: &[u64]) -> bool {
@@ -33,7 +34,7 @@ fn are_same(item: &Item, alone: &Item) -> bool {
         },
         Item::Refused(fault) => match alone {
             Item::Solved(_) => false,
-            Item::Refused(other) => fault == other,
+            Item::Refused(other) => is_same_fault(*fault, *other),
         },
     }
 }

@@ -12,7 +12,7 @@ use xg_batch::Item;
 use xg_io::OpenGate;
 use xg_read::FileFault;
 use xg_test_data::files::{ONE_LEAF, ONE_MOVER, PENNIES, TWICE_HIDDEN, TWO_JOBS};
-use xg_test_data::{HeldPass, Meeting};
+use xg_test_data::{HeldPass, Meeting, is_same_fault};
 
 /// Player one forgets at node 3 that they went on.
 const FORGETFUL: &str = r#"EFG 2 R "Absent" { "A" "B" }
@@ -71,7 +71,7 @@ fn items_are_those_of_the_files_alone(rt: HostRuntime) -> Result<(), Fail> {
 
 fn is_refused(item: &Item, fault: FileFault) -> bool {
     match item {
-        Item::Refused(other) => *other == fault,
+        Item::Refused(other) => is_same_fault(*other, fault),
         Item::Solved(_) => false,
     }
 }

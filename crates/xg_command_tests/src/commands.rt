@@ -79,6 +79,14 @@ pub(crate) fn batch<'a>(
     })
 }
 
+fn asks_same(one: &Settings, other: &Settings) -> bool {
+    one.rounds == other.rounds && one.every == other.every && one.scale == other.scale
+}
+
+fn has_same_rows(one: &RowSettings, other: &RowSettings) -> bool {
+    one.workers == other.workers && one.atomic == other.atomic
+}
+
 /// Whether both are one command, with the same words and numbers.
 fn is_same(one: &Command<'_>, other: &Command<'_>) -> bool {
     match one {
@@ -87,13 +95,13 @@ fn is_same(one: &Command<'_>, other: &Command<'_>) -> bool {
             settings,
             rows,
         } => matches!(other, Command::Solve { file: f, settings: s, rows: r }
-            if f == file && s == settings && r == rows),
+            if f == file && asks_same(s, settings) && has_same_rows(r, rows)),
         Command::Plus {
             file,
             settings,
             rows,
         } => matches!(other, Command::Plus { file: f, settings: s, rows: r }
-            if f == file && s == settings && r == rows),
+            if f == file && asks_same(s, settings) && has_same_rows(r, rows)),
         Command::Check { file, certificate } => {
             matches!(other, Command::Check { file: f, certificate: c } if f == file && c == certificate)
         }
@@ -107,13 +115,13 @@ fn is_same(one: &Command<'_>, other: &Command<'_>) -> bool {
             settings,
             rows,
         } => matches!(other, Command::Drill { cards: c, settings: s, rows: r }
-            if c == cards && s == settings && r == rows),
+            if c == cards && asks_same(s, settings) && has_same_rows(r, rows)),
         Command::Batch {
             files,
             settings,
             workers,
         } => matches!(other, Command::Batch { files: f, settings: s, workers: w }
-            if f.as_slice() == files.as_slice() && s == settings && w == workers),
+            if f.as_slice() == files.as_slice() && asks_same(s, settings) && w == workers),
     }
 }
 

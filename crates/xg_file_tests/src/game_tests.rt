@@ -1,5 +1,5 @@
 //! Games of a few entries.
-use crate::games::{number, text};
+use crate::games::{is_fault, number, text};
 use std::alloc::Global;
 use std::process::Abort;
 use xg_frac::{Frac, one_over};
@@ -147,13 +147,13 @@ fn push(rt: &impl Abort, maker: &mut GameMaker, entry: Record) -> Result<(), Ref
 }
 
 fn takes(rt: &impl Abort, maker: &mut GameMaker, entry: Record) {
-    assert!(rt; push(rt, maker, entry) == Ok(()));
+    assert!(rt; push(rt, maker, entry).is_ok());
 }
 
 /// Pushes an entry that has this fault, and sees that the maker goes on.
 fn refuses(rt: &impl Abort, maker: &mut GameMaker, entry: Record, fault: FileFault) {
     assert!(rt;
-        push(rt, maker, entry) == Err(Refused::File(fault))
+        is_fault(push(rt, maker, entry).err(), fault)
             && !maker.is_spent()
             && !maker.is_complete()
     );
@@ -413,9 +413,9 @@ fn mention_in_turn(
     actions: &ActionViews<'_>,
 ) {
     let fault = FileFault::SetMismatch { node: 3 };
-    assert!(rt; mention(rt, maker, FAIR, actions) == Ok(()));
+    assert!(rt; mention(rt, maker, FAIR, actions).is_ok());
     takes(rt, maker, kept_coin(rt, alloc, FAIR, EDGE));
-    assert!(rt; mention(rt, maker, CENT, actions) == Err(Refused::File(fault)));
+    assert!(rt; is_fault(mention(rt, maker, CENT, actions).err(), fault));
     let other = kept_coin(rt, alloc, FAIR, b"\"its edge\"");
     refuses(rt, maker, other, fault);
     takes(rt, maker, leaf(rt, alloc, 0, None, None));

@@ -1,5 +1,5 @@
 //! Games and faults that are known from outside.
-use crate::games::read;
+use crate::games::{is_fault, read};
 use std::alloc::{AllocError, Global};
 use std::marker::{Send, Sync};
 use std::process::Abort;
@@ -27,12 +27,12 @@ fn read_sizes(rt: &impl Abort, alloc: Global, bytes: &[u8]) -> Result<(u32, u32)
 
 /// Whether a file has this fault.
 fn is_refused(rt: &impl Abort, alloc: Global, bytes: &[u8], fault: FileFault) -> bool {
-    read_sizes(rt, alloc, bytes) == Err(Refused::File(fault))
+    is_fault(read_sizes(rt, alloc, bytes).err(), fault)
 }
 
 /// Whether a file's game has so many nodes and leaves.
 fn is_read(rt: &impl Abort, alloc: Global, bytes: &[u8], nodes: u32, leaves: u32) -> bool {
-    read_sizes(rt, alloc, bytes) == Ok((nodes, leaves))
+    read_sizes(rt, alloc, bytes).ok() == Some((nodes, leaves))
 }
 
 /// What stands behind a prologue of 23 bytes, with the fault that it has.

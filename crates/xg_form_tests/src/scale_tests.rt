@@ -6,6 +6,7 @@ use std::test::Fail;
 use xg_read::{MOST_BYTES, read_game};
 use xg_scale::{FileFault, Refused, Weights, weigh};
 use xg_test_data::files::file_of;
+use xg_test_data::is_same_fault;
 
 fn crosses_threads<T: Send + Sync>() {}
 
@@ -271,7 +272,10 @@ fn weighs_small_games(rt: HostRuntime) -> Result<(), Fail> {
 }
 
 fn refuses(rt: &impl Abort, alloc: Global, row: &Faulty) -> bool {
-    weigh_entries(rt, alloc, row.entries).err() == Some(Refused::File(row.fault))
+    match weigh_entries(rt, alloc, row.entries) {
+        Err(Refused::File(fault)) => is_same_fault(fault, row.fault),
+        _ => false,
+    }
 }
 
 /// The first row that has another fault or none, counted from 0.

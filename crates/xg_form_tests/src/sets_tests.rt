@@ -153,7 +153,13 @@ fn fault_of(alloc: Global, tree: Tree) -> Option<RecallFault> {
 }
 
 fn is_break(fault: Option<RecallFault>, node: u32, earlier: u32) -> bool {
-    fault == Some(RecallFault::NotRecall { node, earlier })
+    match fault {
+        Some(RecallFault::NotRecall {
+            node: at,
+            earlier: before,
+        }) => at == node && before == earlier,
+        _ => false,
+    }
 }
 
 /// The driver doesn't know whether she has passed the exit.

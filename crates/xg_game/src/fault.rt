@@ -7,7 +7,7 @@ use std::alloc::AllocError;
 use std::fmt;
 
 /// Why a game isn't read.
-#[derive(Clone, Copy, PartialEq, Eq)]
+#[derive(Clone, Copy)]
 pub enum Refused {
     /// The file's first fault.
     File(FileFault),

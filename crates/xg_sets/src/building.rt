@@ -19,7 +19,7 @@ use thiserror::Error;
 use xg_tree::{Ancestors, Kind, Node, Tree, Visitor};
 
 /// Why a tree has no sets.
-#[derive(Debug, Drop, PartialEq, Eq, Error)]
+#[derive(Debug, Drop, Error)]
 pub enum RecallFault {
     #[error("at node {node} its player has made other choices than at node {earlier} of the same set")]
     NotRecall { node: u32, earlier: u32 },

@@ -6,6 +6,7 @@ pub mod certificates;
 mod counting;
 mod delays;
 mod event;
+mod faults;
 pub mod files;
 mod held;
 pub mod linked;
@@ -14,5 +15,6 @@ pub mod nodes;
 
 pub use counting::StripeCount;
 pub use delays::Delays;
+pub use faults::is_same_fault;
 pub use held::{HeldPass, HeldStripe};
 pub use meeting::Meeting;
