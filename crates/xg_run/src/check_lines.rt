@@ -1,6 +1,8 @@
 //! The lines that say why a certificate isn't accepted.
-ghost use Rattle.std.specs.Prelude.{◌≡◌, IfOk, string_bytes};
-ghost use Rattle.def_program.specs.CheckLines.{cert_fault_line, end_name, player_number};
+ghost use Rattle.std.specs.Prelude.{◌≡◌, ◌++◌, IfOk, string_bytes};
+ghost use Rattle.std.specs.Fmt.{decimal};
+ghost use Rattle.def_program.specs.CheckLines.{cert_fault_line, player_number};
+ghost use Rattle.def_program.specs.Text.{line_feed};
 ghost use Rattle.xg_run.specs.RefusalLine.{IsCheckLine};
 
 use std::alloc::{AllocError, Global};
@@ -16,7 +18,7 @@ pub fn check_fault_line(alloc: Global, fault: CheckFault) -> Result<String, Allo
         CheckFault::File(fault) => fault_line(alloc, fault),
         CheckFault::Cert(fault) => cert_fault_line(alloc, fault),
         CheckFault::HeadDiffers { line } => {
-            format!(in alloc; "refused 27 HeadDiffers line {line}\n")
+            number_line(alloc, "refused 27 HeadDiffers line ", line as usize)
         }
         CheckFault::NotAPlan { player, set } => {
             let player = player_number(player);
@@ -34,12 +36,16 @@ pub fn check_fault_line(alloc: Global, fault: CheckFault) -> Result<String, Allo
             let player = player_number(player);
             format!(in alloc; "refused 30 ReplyNotTight player {player} set {set}\n")
         }
-        CheckFault::TotalDiffers { end } => {
-            let end = end_name(end);
-            format!(in alloc; "refused 31 TotalDiffers {end}\n")
-        }
+        CheckFault::TotalDiffers { end: Which::Lower } => String::from_str(
+            alloc,
+            "refused 31 TotalDiffers lower\n",
+        ),
+        CheckFault::TotalDiffers { end: Which::Upper } => String::from_str(
+            alloc,
+            "refused 31 TotalDiffers upper\n",
+        ),
         CheckFault::TraceWidens { line } => {
-            format!(in alloc; "refused 32 TraceWidens line {line}\n")
+            number_line(alloc, "refused 32 TraceWidens line ", line as usize)
         }
         CheckFault::SecondDiffers => String::from_str(alloc, "refused 33 SecondDiffers\n"),
         CheckFault::NoMemory => Err(AllocError),
@@ -51,12 +57,19 @@ fn cert_fault_line(alloc: Global, fault: CertFault) -> Result<String, AllocError
     ensures { IfOk result (λ line. string_bytes line ≡ cert_fault_line fault) }
 {
     match fault {
-        CertFault::CertSyntax { at } => format!(in alloc; "refused 22 CertSyntax at {at}\n"),
-        CertFault::CertNumber { at } => format!(in alloc; "refused 23 CertNumber at {at}\n"),
+        CertFault::CertSyntax { at } => number_line(alloc, "refused 22 CertSyntax at ", at),
+        CertFault::CertNumber { at } => number_line(alloc, "refused 23 CertNumber at ", at),
         CertFault::CertVersion => String::from_str(alloc, "refused 24 CertVersion\n"),
         CertFault::CertShort => String::from_str(alloc, "refused 25 CertShort\n"),
-        CertFault::CertTrailing { at } => format!(in alloc; "refused 26 CertTrailing at {at}\n"),
+        CertFault::CertTrailing { at } => number_line(alloc, "refused 26 CertTrailing at ", at),
     }
+}
+
+/// The line that ends with a number.
+fn number_line(alloc: Global, front: &str, number: usize) -> Result<String, AllocError>
+    ensures { IfOk result (λ line. string_bytes line ≡ front.now ++ (decimal number ++ line_feed)) }
+{
+    format!(in alloc; "{front}{number}\n")
 }
 
 fn player_number(player: Player) -> u32
@@ -65,14 +78,5 @@ fn player_number(player: Player) -> u32
     match player {
         Player::One => 1,
         Player::Two => 2,
-    }
-}
-
-fn end_name(end: Which) -> &'static str
-    ensures { result.now ≡ end_name end }
-{
-    match end {
-        Which::Lower => "lower",
-        Which::Upper => "upper",
     }
 }
