@@ -1,5 +1,5 @@
 //! Certificates of two larger games, as they stand and with lines changed.
-use crate::checking::{ChangedCert, bounds, checked, first_other};
+use crate::checking::{ChangedCert, bounds, checked, first_other, is_same};
 use std::test::Fail;
 use xg_check::{CheckFault, Player, Which};
 use xg_frac::ratio;
@@ -34,12 +34,15 @@ const POKER_ROWS: &[ChangedCert] = &[
 fn lines_of_poker(rt: HostRuntime) -> Result<(), Fail> {
     let shown = bounds(ratio(-5, 12), ratio(1, 2));
     assert!(rt;
-        checked(
-            &rt,
-            rt.alloc(),
-            files::POKER_OF_THREE,
-            certificates::POKER_OF_THREE
-        ) == shown
+        is_same(
+            checked(
+                &rt,
+                rt.alloc(),
+                files::POKER_OF_THREE,
+                certificates::POKER_OF_THREE
+            ),
+            shown
+        )
     );
     assert_eq!(rt;
         first_other(
@@ -180,12 +183,15 @@ const TWICE_HIDDEN_ROWS: &[ChangedCert] = &[
 fn lines_of_a_twice_hidden_game(rt: HostRuntime) -> Result<(), Fail> {
     let shown = bounds(ratio(-11, 15), ratio(2, 15));
     assert!(rt;
-        checked(
-            &rt,
-            rt.alloc(),
-            files::TWICE_HIDDEN,
-            certificates::TWICE_HIDDEN
-        ) == shown
+        is_same(
+            checked(
+                &rt,
+                rt.alloc(),
+                files::TWICE_HIDDEN,
+                certificates::TWICE_HIDDEN
+            ),
+            shown
+        )
     );
     assert_eq!(rt;
         first_other(

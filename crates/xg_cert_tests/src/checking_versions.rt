@@ -1,5 +1,5 @@
 //! Both versions of a text: what the lines of version 2 change, and the upgrade of what is accepted.
-use crate::checking::{ChangedCert, bounds, checked, first_other};
+use crate::checking::{ChangedCert, bounds, checked, first_other, is_same};
 use std::alloc::{AllocError, Global};
 use std::process::Abort;
 use std::test::Fail;
@@ -16,20 +16,29 @@ fn accepts_both_versions(rt: HostRuntime) -> Result<(), Fail> {
     let shared = bounds(ratio(0, 1), ratio(1, 6));
     let head = Ok(Verdict::HeadOnly);
     assert!(rt;
-        checked(
-            &rt,
-            rt.alloc(),
-            files::PENNIES,
-            certificates::PENNIES_IN_TWO
-        ) == even
-            && checked(
+        is_same(
+            checked(
+                &rt,
+                rt.alloc(),
+                files::PENNIES,
+                certificates::PENNIES_IN_TWO
+            ),
+            even
+        ) && is_same(
+            checked(
                 &rt,
                 rt.alloc(),
                 files::PENNIES,
                 certificates::PENNIES_HEAD_IN_TWO
-            ) == head
-            && checked(&rt, rt.alloc(), files::SHARED, certificates::SHARED) == shared
-            && checked(&rt, rt.alloc(), files::SHARED, certificates::SHARED_IN_TWO) == shared
+            ),
+            head
+        ) && is_same(
+            checked(&rt, rt.alloc(), files::SHARED, certificates::SHARED),
+            shared
+        ) && is_same(
+            checked(&rt, rt.alloc(), files::SHARED, certificates::SHARED_IN_TWO),
+            shared
+        )
     );
     Ok(())
 }

@@ -9,7 +9,7 @@ use xg_cert::Cert;
 use xg_frac::Ratio;
 
 /// What an accepted certificate shows.
-#[derive(Clone, Copy, PartialEq, Eq)]
+#[derive(Clone, Copy)]
 pub enum Verdict {
     /// In payoff units, the floor of player one's printed plan and the ceiling of player two's.
     Bounds { low: Ratio, high: Ratio },
@@ -26,7 +26,7 @@ pub struct Accepted {
 
 /// Why a certificate isn't accepted: the first fault of the game's file, else of the certificate's text, else the first
 /// test that fails. Sets, actions and the lines of the text count from 1.
-#[derive(Clone, Copy, PartialEq, Eq)]
+#[derive(Clone, Copy)]
 pub enum CheckFault {
     File(FileFault),
     Cert(CertFault),
