@@ -7,7 +7,7 @@ use std::alloc::{AllocError, AllocFailed};
 use std::fmt;
 
 /// Why bytes aren't read as a certificate.
-#[derive(Clone, Copy, PartialEq, Eq)]
+#[derive(Clone, Copy)]
 pub enum CertRefused {
     /// The first fault of the bytes.
     Cert(CertFault),

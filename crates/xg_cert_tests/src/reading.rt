@@ -197,8 +197,8 @@ const FAULTS: &[(&str, CertFault)] = &[
 /// Whether these bytes are refused for this fault.
 pub(crate) fn is_refused(alloc: Global, bytes: &[u8], fault: CertFault) -> bool {
     match read_cert(alloc, bytes) {
-        Ok(_) => false,
-        Err(refused) => refused == CertRefused::Cert(fault),
+        Err(CertRefused::Cert(first)) => first == fault,
+        _ => false,
     }
 }
 
