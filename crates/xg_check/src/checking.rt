@@ -1,12 +1,10 @@
 //! Checking bytes.
-ghost use Rattle.std.specs.Prelude.{◌≡◌, ◌≤◌, IfOk, None, Ok, length};
+ghost use Rattle.std.specs.Prelude.{◌≡◌, ◌≤◌, IfOk, Ok, length};
 ghost use Rattle.def_file.specs.Reading.{game_at, most_bytes};
 ghost use Rattle.def_cert_text.specs.CertText.{versioned_in};
 ghost use Rattle.def_cert_versions.specs.Upgrade.{IsUpgradable};
 ghost use Rattle.def_check.specs.Check.{accepted_in_numbers, checked, verdict_on, most_cert_bytes};
-ghost use Rattle.def_game_numbers.specs.Weighed.{weighed_game};
 ghost use Rattle.def_check.specs.Shown.{Shows, ShowsOfFile};
-ghost use Rattle.def_game_numbers.specs.Numbers.{game_file_fault};
 ghost use Rattle.xg_check.specs.Answers.{AnswersVerdict, IsHeadOnlyWithoutRounds, IsOpened, verdict_in, verdict_of};
 ghost use Rattle.xg_game.specs.Refusals as refusals;
 
@@ -15,7 +13,7 @@ use crate::verdict::{Accepted, CheckFault, Verdict};
 use std::alloc::Global;
 use xg_cert::{CertRefused, read_cert};
 use xg_numbers::Numbers;
-use xg_read::{Game, Refused, read_game};
+use xg_read::{Refused, read_game};
 
 /// Checks a certificate of at most 268,435,456 bytes against a game file of at most 67,108,864 bytes.
 ///
@@ -65,14 +63,6 @@ fn open(alloc: Global, game_bytes: &[u8]) -> Result<Numbers, Refused>
     ensures opened { IfOk result (IsOpened game_bytes.now) }
 {
     let game = read_game(alloc, game_bytes)?;
-    open_game(alloc, game)
-}
-
-fn open_game(alloc: Global, game: Game) -> Result<Numbers, Refused>
-    ensures exact { refusals.Answers result (accepted_in_numbers (Ok game)) }
-    ensures opened { IfOk result (λ numbers. numbers ≡ weighed_game game) }
-    ensures faultless { IfOk result (λ _. game_file_fault game ≡ None) }
-{
     Numbers::of(alloc, game)
 }
 
