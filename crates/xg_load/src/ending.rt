@@ -67,6 +67,7 @@ impl Ending {
     }
 
     /// Says the line, if there is one, and answers the exit status. Whether `err` fails changes no status.
+    #[tactic(auto, using(crate::proofs::WrittenLineIsSaid::says_of))]
     pub fn finish<E: Sink>(&self, err: &mut E) -> u8
         ensures status { result ≡ status_of self.now }
         ensures silent { status_of self.now ≡ 0 → err.new ≡ err.old }
@@ -74,7 +75,7 @@ impl Ending {
     {
         let status = self.status();
         if status != 0 {
-            self.say(err);
+            let _ = write_all(err, self.line());
         }
         status
     }
@@ -90,12 +91,6 @@ impl Ending {
             Ending::WriteFault => 4,
             Ending::NoMemory => 5,
         }
-    }
-
-    fn say<E: Sink>(&self, err: &mut E)
-        ensures { Says (sink_call E.Sink err.old err.new) (line_at_end self.now) }
-    {
-        let _ = write_all(err, self.line());
     }
 
     /// The line that says why there is no text.
