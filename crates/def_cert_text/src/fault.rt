@@ -2,7 +2,7 @@
 
 /// The first fault of a certificate's text. A field is a longest run of bytes other than spaces and line feeds; places
 /// count bytes from 0.
-#[derive(Clone, Copy, PartialEq, Eq)]
+#[derive(Clone, Copy)]
 pub enum CertFault {
     /// A fixed word differs, at the word, or a separator, at its own place.
     CertSyntax { at: usize },

@@ -1,4 +1,5 @@
 //! Worked rows: a text with one line changed.
+use crate::reading::is_same_text_fault;
 use std::alloc::Global;
 use std::process::Abort;
 use std::test::Fail;
@@ -42,8 +43,8 @@ fn changed_by_all(alloc: Global, text: &str, changes: &[TextChange]) -> Result<S
 /// Whether both are the same fault with the same places.
 fn is_same_fault(one: CheckFault, other: CheckFault) -> bool {
     match (one, other) {
-        (CheckFault::File(one), CheckFault::File(other)) => one == other,
-        (CheckFault::Cert(one), CheckFault::Cert(other)) => one == other,
+        (CheckFault::File(one), CheckFault::File(other)) => xg_test_data::is_same_fault(one, other),
+        (CheckFault::Cert(one), CheckFault::Cert(other)) => is_same_text_fault(one, other),
         (CheckFault::HeadDiffers { line: one }, CheckFault::HeadDiffers { line: other }) => {
             one == other
         }

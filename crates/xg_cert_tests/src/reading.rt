@@ -194,10 +194,24 @@ const FAULTS: &[(&str, CertFault)] = &[
     ("0 0\nEND\n", CertFault::CertSyntax { at: 244 }),
 ];
 
+/// Whether both are the same fault at the same place.
+pub(crate) fn is_same_text_fault(one: CertFault, other: CertFault) -> bool {
+    match (one, other) {
+        (CertFault::CertSyntax { at: one }, CertFault::CertSyntax { at: other }) => one == other,
+        (CertFault::CertNumber { at: one }, CertFault::CertNumber { at: other }) => one == other,
+        (CertFault::CertTrailing { at: one }, CertFault::CertTrailing { at: other }) => {
+            one == other
+        }
+        (CertFault::CertVersion, CertFault::CertVersion) => true,
+        (CertFault::CertShort, CertFault::CertShort) => true,
+        _ => false,
+    }
+}
+
 /// Whether these bytes are refused for this fault.
 pub(crate) fn is_refused(alloc: Global, bytes: &[u8], fault: CertFault) -> bool {
     match read_cert(alloc, bytes) {
-        Err(CertRefused::Cert(first)) => first == fault,
+        Err(CertRefused::Cert(first)) => is_same_text_fault(first, fault),
         _ => false,
     }
 }

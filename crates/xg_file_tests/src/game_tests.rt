@@ -153,9 +153,7 @@ fn takes(rt: &impl Abort, maker: &mut GameMaker, entry: Record) {
 /// Pushes an entry that has this fault, and sees that the maker goes on.
 fn refuses(rt: &impl Abort, maker: &mut GameMaker, entry: Record, fault: FileFault) {
     assert!(rt;
-        is_fault(push(rt, maker, entry).err(), fault)
-            && !maker.is_spent()
-            && !maker.is_complete()
+        is_fault(push(rt, maker, entry).err(), fault) && !maker.is_spent() && !maker.is_complete()
     );
 }
 

@@ -154,10 +154,12 @@ fn fault_of(alloc: Global, tree: Tree) -> Option<RecallFault> {
 
 fn is_break(fault: Option<RecallFault>, node: u32, earlier: u32) -> bool {
     match fault {
-        Some(RecallFault::NotRecall {
-            node: at,
-            earlier: before,
-        }) => at == node && before == earlier,
+        Some(
+            RecallFault::NotRecall {
+                node: at,
+                earlier: before,
+            },
+        ) => at == node && before == earlier,
         _ => false,
     }
 }
