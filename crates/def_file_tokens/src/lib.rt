@@ -22,7 +22,7 @@ pub enum Token {
 }
 
 /// A token with its span: the offset of its first byte and the offset behind its last one.
-#[derive(Clone, Copy, PartialEq, Eq)]
+#[derive(Clone, Copy)]
 pub struct Lexeme {
     pub kind: Token,
     pub start: usize,
@@ -30,7 +30,7 @@ pub struct Lexeme {
 }
 
 /// Why there is no next token.
-#[derive(Clone, Copy, Debug, PartialEq, Eq)]
+#[derive(Clone, Copy)]
 pub enum LexFault {
     /// The byte at this offset begins no token.
     Syntax { at: usize },

@@ -11,7 +11,7 @@ pub const MOST_DIVISOR: u32 = 4_194_304;
 /// comes from.
 ///
 /// The ends are totals of best replies: in player one's payoff, times the unit and the root of the plan.
-#[derive(Clone, Copy, PartialEq, Eq)]
+#[derive(Clone, Copy)]
 pub struct TraceLine {
     pub round: u32,
     pub low_round: u32,

@@ -28,7 +28,7 @@ pub enum Kind {
 ///
 /// Information sets are numbered within their kind, and outcomes within the game; 0 stands for no set and for the null
 /// outcome.
-#[derive(Clone, Copy, PartialEq, Eq)]
+#[derive(Clone, Copy)]
 pub struct Node {
     pub kind: Kind,
     pub set: u32,

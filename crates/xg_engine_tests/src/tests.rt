@@ -15,6 +15,7 @@ use xg_game::Game;
 use xg_gen::one_card_poker;
 use xg_jobs::PlainRows;
 use xg_test_data::files::{ONE_MOVER, PENNIES, TWICE_HIDDEN};
+use xg_test_data::is_same_line;
 
 /// A line of a trace in the order of the certificate: the round, the lower end's round and total, the upper end's.
 pub(crate) type Line = (u32, u32, i128, u32, i128);
@@ -206,7 +207,7 @@ fn assert_trace(rt: &impl Abort, engine: &Engine, lines: &[Line]) {
 pub(crate) fn assert_lines(rt: &impl Abort, trace: &[TraceRow], lines: &[Line]) {
     assert!(rt; trace.len() == lines.len());
     for (shown, line) in trace.iter().zip(lines) {
-        assert!(rt; *shown == row(*line));
+        assert!(rt; is_same_line(shown, &row(*line)));
     }
 }
 

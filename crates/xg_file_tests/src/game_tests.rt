@@ -8,6 +8,7 @@ use xg_lex::{Text, TextView, Token, Tokens};
 use xg_record::{
     Action, ActionView, ActionViews, Actions, EntryActions, EntryKind, EntryView, Payoffs, Record,
 };
+use xg_test_data::nodes::is_same_node;
 use xg_tree::Node;
 
 fn actions(
@@ -184,7 +185,10 @@ fn has_texts(game: &Game) -> bool {
 }
 
 fn has_node(game: &Game, k: u32, name: &[u8], node: Node) -> bool {
-    k >= 1 && k <= game.tree().len() && game.node_name(k) == name && game.tree().node(k) == node
+    k >= 1
+        && k <= game.tree().len()
+        && game.node_name(k) == name
+        && is_same_node(game.tree().node(k), node)
 }
 
 fn node(kind: Kind, set: u32, outcome: u32, children: u32) -> Node {
@@ -334,7 +338,7 @@ fn a_fault_of_an_outcome_leaves_the_maker_as_it_was(rt: HostRuntime) {
 
 /// The text of a file that is one text token, where it stands.
 fn seen<'a>(rt: &impl Abort, file: &'a [u8]) -> TextView<'a> {
-    let token = Tokens::new(file).next().expect(rt, "a token");
+    let token = Tokens::new(file).next().ok().expect(rt, "a token");
     assert!(rt; token.kind == Token::Text);
     TextView::of(&file[token.start + 1..token.end - 1])
 }

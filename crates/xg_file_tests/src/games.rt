@@ -9,7 +9,7 @@ use xg_test_data::is_same_fault;
 
 /// The text of a file that is one text token.
 pub fn text(rt: &impl Abort, alloc: Global, file: &[u8]) -> Text {
-    let token = Tokens::new(file).next().expect(rt, "a token");
+    let token = Tokens::new(file).next().ok().expect(rt, "a token");
     assert!(rt; token.kind == Token::Text);
     unescape(alloc, &file[token.start + 1..token.end - 1]).expect(rt, "memory")
 }

@@ -4,6 +4,7 @@ ghost use Rattle.def_tree.specs.declared.Node.{Node};
 use std::mem::size_of;
 use std::process::Abort;
 use std::test::Fail;
+use xg_test_data::nodes::is_same_node;
 use xg_tree::{Builder, Kind, Node, PushFault, Tree, Visitor};
 
 const ROOM: usize = 32;
@@ -126,7 +127,7 @@ fn walks_through_a_small_tree(rt: HostRuntime) -> Result<(), Fail> {
     assert!(rt;
         tree.len() == 9
             && tree.leaves() == 5
-            && tree.node(4) == node((Kind::Two, 1, 1))
+            && is_same_node(tree.node(4), node((Kind::Two, 1, 1)))
             && recorded(&tree).has(&SMALL_STEPS)
     );
     crosses_threads::<Tree>();

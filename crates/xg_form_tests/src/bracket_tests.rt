@@ -14,6 +14,7 @@ use std::test::Fail;
 use xg_bracket::{Board, TraceLine, Variant};
 use xg_plan::{Plan, Play, Player, Reply, from_play};
 use xg_seq::SeqForm;
+use xg_test_data::is_same_trace;
 use xg_test_data::nodes::{PENNIES, PENNIES_WEIGHTS};
 
 /// Both players' plans after a round, of one root, by the units of their first actions, and the best reply to each by
@@ -208,7 +209,7 @@ fn assert_plain(
 {
     assert!(rt; !has_ends(board));
     offer_plain(alloc, form, board)?;
-    assert!(rt; board.trace() == PLAIN_TRACE.as_slice());
+    assert!(rt; is_same_trace(board.trace(), PLAIN_TRACE.as_slice()));
     ends_with(rt, board.lower(), &[1, 0, 1], -1);
     ends_with(rt, board.upper(), &[2, 1, 1], 0);
     Ok(())
@@ -270,7 +271,7 @@ fn assert_plus(
 {
     assert!(rt; !has_ends(board));
     offer_plus(alloc, form, board)?;
-    assert!(rt; board.trace() == PLUS_TRACE.as_slice());
+    assert!(rt; is_same_trace(board.trace(), PLUS_TRACE.as_slice()));
     ends_with(rt, board.lower(), &[6, 1, 5], -4);
     ends_with(rt, board.upper(), &[36, 3, 33], 30);
     Ok(())

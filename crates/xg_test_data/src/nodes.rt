@@ -14,6 +14,14 @@ macro_rules! node {
     };
 }
 
+/// Whether both are the same node.
+pub fn is_same_node(one: Node, other: Node) -> bool {
+    one.kind == other.kind
+        && one.set == other.set
+        && one.outcome == other.outcome
+        && one.children == other.children
+}
+
 pub const LEAF: Node = node!(Leaf, 0, 0);
 
 /// Both players choose one of two sides, and player two doesn't see player one's.
