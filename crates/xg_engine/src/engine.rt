@@ -59,7 +59,10 @@ impl Engine {
             → game_file_fault game.now ≡ Some fault }
     {
         let numbers = Numbers::open(alloc, game)?;
-        Ok(Engine::from_numbers(alloc, game, numbers)?)
+        let Ok(engine) = Engine::from_numbers(alloc, game, numbers) else {
+            return Err(Refused::NoMemory);
+        };
+        Ok(engine)
     }
 
     /// A game whose numbers are there already.

@@ -51,11 +51,27 @@ impl Learner {
             IfOk result (λ learner.
             StandsWith sets 0 (replicate (sequence_count sets) (pos 0)) (cleared sets) learner) }
     {
+        let regrets = Regrets::new(alloc, form, player)?;
+        let Ok(play) = Play::new(alloc, form, player) else {
+            drop(regrets);
+            return Err(AllocError);
+        };
+        let Ok(plan) = Plan::new(alloc, form, player) else {
+            drop(regrets);
+            drop(play);
+            return Err(AllocError);
+        };
+        let Ok(sum) = Plan::new(alloc, form, player) else {
+            drop(regrets);
+            drop(play);
+            drop(plan);
+            return Err(AllocError);
+        };
         Ok(Learner {
-            regrets: Regrets::new(alloc, form, player)?,
-            play: Play::new(alloc, form, player)?,
-            plan: Plan::new(alloc, form, player)?,
-            sum: Plan::new(alloc, form, player)?,
+            regrets,
+            play,
+            plan,
+            sum,
         })
     }
 
@@ -98,6 +114,22 @@ impl Learner {
     {
         close_small_round(form, player, &mut self.regrets, &self.play, rows);
         cut_regrets(&mut self.regrets, variant);
+    }
+
+    /// The sum of plans alone.
+    pub(crate) fn into_sum(self) -> Plan
+        ensures { result ≡ self.sum }
+    {
+        let Learner {
+            regrets,
+            play,
+            plan,
+            sum,
+        } = self;
+        drop(regrets);
+        drop(play);
+        drop(plan);
+        sum
     }
 
     /// Learns from the rows of a round, and if it goes on, plays the next one, too.

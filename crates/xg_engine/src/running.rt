@@ -147,10 +147,21 @@ fn finish(head: Head, run: Run) -> FinishedRun
     ensures sum_two { result.sum_two ≡ run.players.two.sum }
 {
     let Run { players, evaluator } = run;
-    let Players { one, two, .. } = players;
+    let Players { one, two, rows, .. } = players;
+    let Evaluator {
+        board,
+        room,
+        reply_one,
+        reply_two,
+    } = evaluator;
+    // By a call each: what the end of a function drops is taken apart there.
+    drop(rows);
+    drop(room);
+    drop(reply_one);
+    drop(reply_two);
     FinishedRun {
-        outcome: outcome_with(head, evaluator.board),
-        sum_one: one.sum,
-        sum_two: two.sum,
+        outcome: outcome_with(head, board),
+        sum_one: one.into_sum(),
+        sum_two: two.into_sum(),
     }
 }
