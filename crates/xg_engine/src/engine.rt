@@ -127,10 +127,14 @@ impl Engine {
         ensures game { self.new.game ≡ self.old.game }
     {
         leave(&mut self.last_run, None);
-        note_rows(alloc, self.numbers.form(), maker, &mut self.jobs)?;
+        let Ok(()) = note_rows(alloc, self.numbers.form(), maker, &mut self.jobs) else {
+            return Err(AllocError);
+        };
         let head = head_with(&self.numbers, settings);
         let source = RowSource::new(rt, alloc, self.numbers.form(), &self.jobs, maker);
-        let finished = play(&source, variant, settings, head)?;
+        let Ok(finished) = play(&source, variant, settings, head) else {
+            return Err(AllocError);
+        };
         leave(&mut self.last_run, Some(finished));
         Ok(())
     }
@@ -192,7 +196,8 @@ fn note_rows<M: RowMaker>(
     ensures leaves { HasLeavesOf form.now jobs.new }
 {
     if maker.makes_packets() {
-        jobs.add_rows(alloc, form)?;
+        jobs.add_rows(alloc, form)
+    } else {
+        Ok(())
     }
-    Ok(())
 }

@@ -10,6 +10,7 @@ ghost use Rattle.xg_engine.specs.Sources.{CanMakeRows};
 use crate::source::RowSource;
 use def_plus::Variant;
 use std::alloc::{AllocError, Global};
+use std::mem::replace;
 use std::sync::Wait;
 use std::thread::Threads;
 use xg_bracket::Board;
@@ -38,10 +39,14 @@ impl RowRoom {
     fn new(alloc: Global, form: &SeqForm) -> Result<RowRoom, AllocError>
         ensures { IfOk result (HasRoomForRows form.now) }
     {
-        Ok(RowRoom {
-            rows: Rows::new(alloc, form)?,
-            small_rows: SmallRows::new(alloc, form)?,
-        })
+        let Ok(rows) = Rows::new(alloc, form) else {
+            return Err(AllocError);
+        };
+        let Ok(small_rows) = SmallRows::new(alloc, form) else {
+            drop(rows);
+            return Err(AllocError);
+        };
+        Ok(RowRoom { rows, small_rows })
     }
 
     // The leaf sums of each player's sequences against the other player's plan. Where they are made in 64 bits, no
@@ -65,7 +70,11 @@ impl RowRoom {
         if source.small_rows(one, two, &mut self.small_rows) {
             self.rows.widen(&self.small_rows);
         } else {
-            self.rows = source.rows(one, two)?;
+            let Ok(rows) = source.rows(one, two) else {
+                return Err(AllocError);
+            };
+            // By a call: what is assigned to is dropped field by field.
+            drop(replace(&mut self.rows, rows));
         }
         Ok(())
     }
@@ -82,11 +91,29 @@ impl Evaluator {
         ensures room { IfOk result (λ evaluator. CanEvaluate variant form.now evaluations evaluator) }
         ensures board { IfOk result (λ evaluator. evaluator.board.board ≡ new_board) }
     {
+        let Ok(reply_one) = Reply::new(alloc, form, Player::One) else {
+            return Err(AllocError);
+        };
+        let Ok(reply_two) = Reply::new(alloc, form, Player::Two) else {
+            drop(reply_one);
+            return Err(AllocError);
+        };
+        let Ok(room) = RowRoom::new(alloc, form) else {
+            drop(reply_one);
+            drop(reply_two);
+            return Err(AllocError);
+        };
+        let Ok(board) = Board::of_variant(alloc, form, evaluations, variant) else {
+            drop(reply_one);
+            drop(reply_two);
+            drop(room);
+            return Err(AllocError);
+        };
         Ok(Evaluator {
-            reply_one: Reply::new(alloc, form, Player::One)?,
-            reply_two: Reply::new(alloc, form, Player::Two)?,
-            room: RowRoom::new(alloc, form)?,
-            board: Board::of_variant(alloc, form, evaluations, variant)?,
+            board,
+            room,
+            reply_one,
+            reply_two,
         })
     }
 
@@ -108,7 +135,9 @@ impl Evaluator {
         ensures board { OnOk result (self.new.board.board ≡ offered self.old.board.board
             (best_offer self.old.board.variant source.now.form.now round one.now two.now)) }
     {
-        self.room.make(source, one, two)?;
+        let Ok(()) = self.room.make(source, one, two) else {
+            return Err(AllocError);
+        };
         let rows = &self.room.rows;
         best_reply(source.form, Player::Two, rows.two(), &mut self.reply_two);
         best_reply(source.form, Player::One, rows.one(), &mut self.reply_one);

@@ -51,7 +51,9 @@ impl Learner {
             IfOk result (λ learner.
             StandsWith sets 0 (replicate (sequence_count sets) (pos 0)) (cleared sets) learner) }
     {
-        let regrets = Regrets::new(alloc, form, player)?;
+        let Ok(regrets) = Regrets::new(alloc, form, player) else {
+            return Err(AllocError);
+        };
         let Ok(play) = Play::new(alloc, form, player) else {
             drop(regrets);
             return Err(AllocError);
@@ -151,10 +153,22 @@ impl Players {
             → IfOk result (λ players. StandAfter variant form.now scale 0 players) }
         ensures no_plans { IfOk result (λ players. players.have_plans ≡ false) }
     {
+        let Ok(rows) = SmallRows::new(alloc, form) else {
+            return Err(AllocError);
+        };
+        let Ok(one) = Learner::new(alloc, form, Player::One) else {
+            drop(rows);
+            return Err(AllocError);
+        };
+        let Ok(two) = Learner::new(alloc, form, Player::Two) else {
+            drop(rows);
+            drop(one);
+            return Err(AllocError);
+        };
         Ok(Players {
-            rows: SmallRows::new(alloc, form)?,
-            one: Learner::new(alloc, form, Player::One)?,
-            two: Learner::new(alloc, form, Player::Two)?,
+            one,
+            two,
+            rows,
             have_plans: false,
         })
     }
@@ -216,11 +230,14 @@ impl Players {
             self.have_plans = goes_on;
             return Ok(());
         }
-        let rows = source.rows(&self.one.plan, &self.two.plan)?;
+        let Ok(rows) = source.rows(&self.one.plan, &self.two.plan) else {
+            return Err(AllocError);
+        };
         self.one
             .learn(source.form, Player::One, variant, rows.one());
         self.two
             .learn(source.form, Player::Two, variant, rows.two());
+        drop(rows);
         self.have_plans = false;
         Ok(())
     }

@@ -51,10 +51,15 @@ impl Run {
         requires limits { AreWithinLimitsOf variant settings }
         ensures { IfOk result (λ run. IsAfter variant form.now settings 0 run) }
     {
-        Ok(Run {
-            players: Players::new(alloc, form)?,
-            evaluator: Evaluator::new(alloc, form, evaluation_count(settings), variant)?,
-        })
+        let Ok(players) = Players::new(alloc, form) else {
+            return Err(AllocError);
+        };
+        let count = evaluation_count(settings);
+        let Ok(evaluator) = Evaluator::new(alloc, form, count, variant) else {
+            drop(players);
+            return Err(AllocError);
+        };
+        Ok(Run { players, evaluator })
     }
 
     /// Plays the next round, and evaluates the sums of plans where this round is an evaluated one. The plans of the

@@ -14,7 +14,7 @@ pub returns-clause-left : goal.returns-clause-left
 returns-clause-left g c =
     let game = c.args.self.now.game in
     let settings = c.args.settings in
-    let finished : FinishedRun = c.in_ok-finished.finished in
+    let finished : FinishedRun = c.in-Ok-play.finished in
     let outcome_is : finished.outcome ≡ outcome_of c.args.variant c.args.self.now.game.form (head_with c.args.self.now.game c.args.settings) = search rules in
     let one : finished.sum_one ≡ (rounds_of c.args.variant c.args.self.now.game.form settings.scale settings.rounds).sum_one = search rules in
     let two : finished.sum_two ≡ (rounds_of c.args.variant c.args.self.now.game.form settings.scale settings.rounds).sum_two = search rules in

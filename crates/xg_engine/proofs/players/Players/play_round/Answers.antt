@@ -69,7 +69,7 @@ learn-requires g c =
     let r = c.requires in
     let between = c.make_plans.new.self in
     can_learn_one variant form scale n between c.make_plans.ensures r.source.form r.small_scale r.few_rounds _ _
-    (◌∙◌ {c = player_rows form One between.two.plan} c.one.ensures c.in_ok-rows.ensures.one) c.in_ok-rows.ensures.two
+    (◌∙◌ {c = player_rows form One between.two.plan} c.one.ensures c.in-Ok.ensures.one) c.in-Ok.ensures.two
 
 pub learn-requires-2 : goal.learn-requires-2
 learn-requires-2 g c =
@@ -80,7 +80,7 @@ learn-requires-2 g c =
     let r = c.requires in
     let between = c.make_plans.new.self in
     can_learn_two variant form scale n between c.make_plans.ensures r.source.form r.small_scale r.few_rounds _ _
-    c.in_ok-rows.ensures.one (◌∙◌ {c = player_rows form Two between.one.plan} c.two.ensures c.in_ok-rows.ensures.two)
+    c.in-Ok.ensures.one (◌∙◌ {c = player_rows form Two between.one.plan} c.two.ensures c.in-Ok.ensures.two)
 
 pub returns-clause-ready : goal.returns-clause-ready
 returns-clause-ready g c =
@@ -92,8 +92,8 @@ returns-clause-ready g c =
     let between = c.make_plans.new.self in
     let after : Players = record { one = c.learn.new.self; two = c.learn-2.new.self; rows = c.small_rows.new.rows; have_plans = false } in
     ready variant form scale (n + 1) after refl
-    (turns_lead_on variant form scale n between c.make_plans.ensures _ _ (◌∙◌ {c = player_rows form One between.two.plan} c.one.ensures c.in_ok-rows.ensures.one)
-    (◌∙◌ {c = player_rows form Two between.one.plan} c.two.ensures c.in_ok-rows.ensures.two) after c.learn.ensures c.learn-2.ensures
+    (turns_lead_on variant form scale n between c.make_plans.ensures _ _ (◌∙◌ {c = player_rows form One between.two.plan} c.one.ensures c.in-Ok.ensures.one)
+    (◌∙◌ {c = player_rows form Two between.one.plan} c.two.ensures c.in-Ok.ensures.two) after c.learn.ensures c.learn-2.ensures
     (c.small_rows.ensures.count_one ∙ c.make_plans.ensures.rows_one) (c.small_rows.ensures.count_two ∙ c.make_plans.ensures.rows_two))
 
 pub returns-clause-small : goal.returns-clause-small
