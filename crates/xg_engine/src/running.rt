@@ -79,12 +79,20 @@ impl Run {
     {
         let round = so_far + 1;
         let is_evaluated = round % settings.every == 0 || round == settings.rounds;
-        self.players
-            .play_round(source, variant, settings.scale, so_far, !is_evaluated)?;
+        let Ok(()) = self
+            .players
+            .play_round(source, variant, settings.scale, so_far, !is_evaluated)
+        else {
+            return Err(AllocError);
+        };
         if is_evaluated {
             let players = &self.players;
-            self.evaluator
-                .evaluate(source, round, &players.one.sum, &players.two.sum)?;
+            let Ok(()) = self
+                .evaluator
+                .evaluate(source, round, &players.one.sum, &players.two.sum)
+            else {
+                return Err(AllocError);
+            };
         }
         Ok(())
     }
@@ -105,7 +113,9 @@ impl Run {
             (StandAfter variant source.now.form.now settings.scale settings.rounds self.new.players) }
     {
         for so_far in 0..settings.rounds {
-            self.step(source, variant, settings, so_far)?;
+            let Ok(()) = self.step(source, variant, settings, so_far) else {
+                return Err(AllocError);
+            };
         }
         Ok(())
     }
@@ -127,7 +137,9 @@ pub(crate) fn play<Rt: Threads + Wait + Sync, M: RowMaker>(
     ensures sum_two { IfOk result (λ run.
         run.sum_two ≡ (rounds_of variant source.now.form.now settings.scale settings.rounds).sum_two) }
 {
-    let mut run = Run::new(source.alloc, source.form, variant, settings)?;
+    let Ok(mut run) = Run::new(source.alloc, source.form, variant, settings) else {
+        return Err(AllocError);
+    };
     match run.play_rounds(source, variant, settings) {
         Ok(()) => Ok(finish(head, run)),
         Err(error) => {

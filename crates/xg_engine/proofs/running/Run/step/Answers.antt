@@ -15,7 +15,7 @@ evaluate-requires-clause-plans g c κs within =
     let n = c.args.so_far in
     let limits = c.requires.limits in
     let players = c.play_round.new.self in
-    let told = c.in_ok-play_round.ensures in
+    let told = c.in-Ok.ensures in
     let none = told.stops (not_from_true _ c.if-is_evaluated.true) in
     let stand = stands c.args.variant form settings.scale (n + 1) players none told.ready in
     subst (λ v. AreSumsAfter v form (n + 1) players.one.sum players.two.sum) (sym c.requires.run.room.variant_is)
@@ -40,8 +40,8 @@ evaluate-requires-clause-room g c κs within =
       room_for_more c.args.variant form settings n c.requires.next due,
     )
 
-pub returns-in_ok-evaluate : goal.returns-in_ok-evaluate
-returns-in_ok-evaluate g c =
+pub returns-in-Ok-evaluate : goal.returns-in-Ok-evaluate
+returns-in-Ok-evaluate g c =
     let form = c.args.source.now.form.now in
     let settings = c.args.settings in
     let n = c.args.so_far in
@@ -52,17 +52,17 @@ returns-in_ok-evaluate g c =
     ] ∙ c.if-is_evaluated.true in
     let run = c.requires.run in
     let players = c.play_round.new.self in
-    let told = c.in_ok-play_round.ensures in
+    let told = c.in-Ok.ensures in
     let none = told.stops (not_from_true _ c.if-is_evaluated.true) in
     let stand = stands c.args.variant form settings.scale (n + 1) players none told.ready in
     let before = c.args.self.now.evaluator.board.board in
     let after = c.evaluate.new.self.board.board in
     let is_after =
-    c.in_ok-evaluate.ensures.board
+    c.in-Ok-evaluate.ensures.board
     ∙ ap (λ v. offered before (best_offer v form (n + 1) players.one.sum players.two.sum)) run.room.variant_is in
     let room =
     subst (λ v. CanEvaluate v form c.args.self.now.evaluator.board.capacity c.evaluate.new.self) run.room.variant_is
-    c.in_ok-evaluate.ensures.room in
+    c.in-Ok-evaluate.ensures.room in
     record {
       players = told.ready;
       goes_on = λ have_plans. absurd (true≢false (sym have_plans ∙ none));
@@ -84,7 +84,7 @@ returns-else-is_evaluated g c =
     ] ∙ c.if-is_evaluated.false in
     let run = c.requires.run in
     record {
-      players = c.in_ok-play_round.ensures.ready;
+      players = c.in-Ok.ensures.ready;
       goes_on = λ _. one_more c.args.variant form settings n c.requires.next due;
       room = run.room;
       board = run.board ∙ ap board_after (sym (offers_same c.args.variant form settings n due));
