@@ -49,10 +49,24 @@ impl Regrets {
         ensures { IfOk result (λ regrets. regrets ≡ none_so_far (player_sets form.now player)) }
     {
         let count = form.sequence_count(player) as usize;
-        let small_regrets = vec![in alloc; 0i64; count]?;
-        let regrets = vec![in alloc; 0i128; count]?;
-        let worths = vec![in alloc; 0i128; count]?;
-        let small_worths = vec![in alloc; 0i64; count]?;
+        let Ok(small_regrets) = vec![in alloc; 0i64; count] else {
+            return Err(AllocError);
+        };
+        let Ok(regrets) = vec![in alloc; 0i128; count] else {
+            drop(small_regrets);
+            return Err(AllocError);
+        };
+        let Ok(worths) = vec![in alloc; 0i128; count] else {
+            drop(small_regrets);
+            drop(regrets);
+            return Err(AllocError);
+        };
+        let Ok(small_worths) = vec![in alloc; 0i64; count] else {
+            drop(small_regrets);
+            drop(regrets);
+            drop(worths);
+            return Err(AllocError);
+        };
         Ok(Regrets {
             most_small: Some(0),
             small_regrets,
