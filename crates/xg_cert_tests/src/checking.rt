@@ -86,24 +86,29 @@ fn is_same_fault(one: CheckFault, other: CheckFault) -> bool {
     }
 }
 
+fn is_same_verdict(one: &Verdict, other: &Verdict) -> bool {
+    match one {
+        Verdict::Bounds { low, high } => {
+            matches!(other, Verdict::Bounds { low: l, high: h } if l == low && h == high)
+        }
+        Verdict::HeadOnly => matches!(other, Verdict::HeadOnly),
+    }
+}
+
 /// Whether both accept with the same bounds or without any, or both refuse for the same fault.
 pub(crate) fn is_same(
     one: Result<Verdict, CheckFault>,
     other: Result<Verdict, CheckFault>,
 ) -> bool {
-    match (one, other) {
-        (
-            Ok(Verdict::Bounds { low, high }),
-            Ok(
-                Verdict::Bounds {
-                    low: other_low,
-                    high: other_high,
-                },
-            ),
-        ) => low == other_low && high == other_high,
-        (Ok(Verdict::HeadOnly), Ok(Verdict::HeadOnly)) => true,
-        (Err(one), Err(other)) => is_same_fault(one, other),
-        _ => false,
+    match &one {
+        Ok(verdict) => match &other {
+            Ok(expected) => is_same_verdict(verdict, expected),
+            Err(_) => false,
+        },
+        Err(fault) => match &other {
+            Ok(_) => false,
+            Err(expected) => is_same_fault(*fault, *expected),
+        },
     }
 }
 
