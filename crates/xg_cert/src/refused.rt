@@ -14,7 +14,7 @@ pub enum CertRefused {
     NoMemory,
 }
 
-// By hand, since a derived text takes long to prove. Which fault it is, the fault tells.
+// By hand, since a derived text takes long to prove. It names the variant alone.
 impl fmt::Debug for CertRefused {
     fn fmt<W: fmt::Write>(&self, f: &mut fmt::Formatter<W>) -> fmt::Result {
         f.write_str(match self {

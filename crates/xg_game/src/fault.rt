@@ -15,7 +15,7 @@ pub enum Refused {
     NoMemory,
 }
 
-// By hand, since a derived text of all faults of a file takes long to prove. Which fault it is, the fault tells.
+// By hand, since a derived text of all faults of a file takes long to prove. It names the variant alone.
 impl fmt::Debug for Refused {
     fn fmt<W: fmt::Write>(&self, f: &mut fmt::Formatter<W>) -> fmt::Result {
         f.write_str(match self {

@@ -17,7 +17,7 @@ const PRICE: u32 = 12;
 const MOST_SAVED: u32 = 24;
 
 /// The longest pause between two starts of threads.
-const LONGEST_PAUSE: u32 = 255;
+const LONGEST_PAUSE: u32 = 1023;
 
 impl Pace {
     /// Whether threads are to be started this time.
@@ -44,7 +44,7 @@ impl Pace {
             self.saved -= PRICE;
         } else {
             self.saved = 0;
-            self.pause = self.pause.min(LONGEST_PAUSE / 4) * 4 + 3;
+            self.pause = self.pause.min(LONGEST_PAUSE / 8) * 8 + 7;
             self.left = self.pause;
         }
     }

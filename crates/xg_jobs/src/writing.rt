@@ -8,10 +8,10 @@ ghost use Rattle.xg_jobs.specs.Rows.{AreNumbersOf};
 ghost use Rattle.xg_jobs.specs.Writing.{CanWrite};
 
 use crate::entry::GroupEntry;
-use crate::halves::add_by_threads;
 use crate::input::{Groups, RowInput};
 use crate::roll::Roll;
 use crate::row::Row;
+use crate::sharing::add_by_threads;
 use crate::spare::THREADS;
 use std::marker::{Send, Sync};
 use std::sync::atomic::AtomicU64;

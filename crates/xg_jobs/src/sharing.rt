@@ -11,10 +11,12 @@ use crate::row::Row;
 use std::marker::{Send, Sync};
 use std::thread::{Threads, join_mut};
 
-/// As `add_groups`, in halves by two threads where the spare room has rows of player two for the second one; each half
-/// is done so, too, with half of the room that is left. Each thread signs the roll. Whether it is full then is looked
-/// for as often as is said.
-#[cycle(halves)]
+/// As `add_groups`, by a thread more for each of player two's rows that the spare room has: the last part of the entries
+/// is one thread's, and the others share the rest. Each thread signs the roll. Whether it is full then is looked for as
+/// often as is said.
+///
+/// The caller starts all of the threads, since one that has to run before it starts another comes late.
+#[cycle(sharing)]
 pub(crate) fn add_by_threads<Rt: Threads + Sync, E: GroupEntry + Sync, R: Row + Send>(
     rt: &Rt,
     groups: &Groups<'_, E>,
@@ -36,7 +38,7 @@ pub(crate) fn add_by_threads<Rt: Threads + Sync, E: GroupEntry + Sync, R: Row + 
         roll.sign();
         return roll.is_full_within(looks);
     }
-    let cut = middle_of(groups.starts, own.len());
+    let cut = begin_of_last(groups.starts, own.len(), spare.len() / room);
     let (first_one, later_one) = groups.one.split_at(cut);
     let (first_starts, _) = groups.starts.split_at(cut + 1);
     let (_, later_starts) = groups.starts.split_at(cut);
@@ -51,9 +53,8 @@ pub(crate) fn add_by_threads<Rt: Threads + Sync, E: GroupEntry + Sync, R: Row + 
         ..*groups
     };
     let (first_own, later_own) = own.split_at_mut(cut);
-    let (later_other, left) = spare.split_at_mut(room);
-    let (first_spare, later_spare) = left.split_at_mut(left.len() / 2);
-    let full = add_halves(
+    let (later_other, first_spare) = spare.split_at_mut(room);
+    let full = add_side_by_side(
         rt,
         roll,
         looks,
@@ -64,15 +65,15 @@ pub(crate) fn add_by_threads<Rt: Threads + Sync, E: GroupEntry + Sync, R: Row + 
         &later,
         later_own,
         later_other,
-        later_spare,
     );
     add_rows(other, later_other);
     full
 }
 
-// The two halves, so that what the closures require is what this function is given.
-#[cycle(halves)]
-fn add_halves<Rt: Threads + Sync, E: GroupEntry + Sync, R: Row + Send>(
+// The last part by a thread of its own, and the rest as before, so that what the closures require is what this function
+// is given.
+#[cycle(sharing)]
+fn add_side_by_side<Rt: Threads + Sync, E: GroupEntry + Sync, R: Row + Send>(
     rt: &Rt,
     roll: &Roll,
     looks: usize,
@@ -83,7 +84,6 @@ fn add_halves<Rt: Threads + Sync, E: GroupEntry + Sync, R: Row + Send>(
     later: &Groups<'_, E>,
     later_own: &mut [R],
     later_other: &mut [R],
-    later_spare: &mut [R],
 ) -> bool
     requires sync { IsSync Rt.row }
     requires first { CanAddGroups R.limit first.now.starts.now (map E.leaf first.now.entries.now) first.now.one.now
@@ -104,25 +104,30 @@ fn add_halves<Rt: Threads + Sync, E: GroupEntry + Sync, R: Row + Send>(
             first.entry.now.one.now first.entry.now.two.now (map R.amount own.exit.now)
             (replicate (length other.entry.now) (pos 0)) (map R.amount other.exit.now) }
     { add_by_threads(rt, first, roll, looks, own, other, spare) };
-    let mut two = || -> bool
-        requires { IsSync Rt.row × IsSync E.row × IsSend R.row
+    let mut two = ||
+        requires { IsSync E.row × IsSend R.row
             × CanAddGroups R.limit later.now.starts.now (map E.leaf later.now.entries.now) later.now.one.now
             later.now.two.now (length later_own.now) (replicate (length later_other.now) (pos 0)) }
         ensures { AddsGroups later.entry.now.starts.now (map E.leaf later.entry.now.entries.now)
             later.entry.now.one.now later.entry.now.two.now (map R.amount later_own.exit.now)
             (replicate (length later_other.entry.now) (pos 0)) (map R.amount later_other.exit.now) }
-    { add_by_threads(rt, later, roll, 0, later_own, later_other, later_spare) };
+    {
+        add_groups(later, later_own, later_other);
+        roll.sign();
+    };
     let (_, full) = join_mut(rt, &mut two, &mut one);
     full
 }
 
-// How many of so many groups begin before the middle of their entries, if groups begin in order; never more than there
-// are.
-fn middle_of(starts: &[u32], groups: usize) -> usize
+// How many of so many groups begin before the last of some equal parts of their entries, if groups begin in order; never
+// more than there are. The caller's part is one more than the threads'.
+fn begin_of_last(starts: &[u32], groups: usize, threads: usize) -> usize
     requires { groups < length starts.now }
     ensures { result ≤ groups }
 {
-    let entry = starts[0] / 2 + starts[groups] / 2;
+    let end = starts[groups] as usize;
+    let entries = end.saturating_sub(starts[0] as usize);
+    let entry = end.saturating_sub(entries / threads.saturating_add(1));
     let mut low = 0;
     let mut high = groups;
     for _step in 0..64 {
@@ -130,7 +135,7 @@ fn middle_of(starts: &[u32], groups: usize) -> usize
             break;
         }
         let middle = low + (high - low) / 2;
-        if starts[middle] < entry {
+        if (starts[middle] as usize) < entry {
             low = middle + 1;
         } else {
             high = middle;
