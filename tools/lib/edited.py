@@ -5,6 +5,8 @@ import re
 LINE = re.compile(r"^(file|old|new): ?(.*)", re.MULTILINE)
 # The heads of items, as the toolchain lays files out: a method stands four columns in.
 FUNCTION = re.compile(r"^(|    )(?:pub(?:\(.*?\))? )?(?:const |unsafe )*fn (\w+)", re.MULTILINE)
+# Says of the function below it that it is proved together with others, which call it.
+CYCLE = re.compile(r"^ *#\[cycle\(\w+\)\]$", re.MULTILINE)
 ITEM = re.compile(r"(?:pub(?:\(.*?\))? )?(?:unsafe )?(impl|struct|enum|const|static|type|trait|mod|use|union)\b(.*)")
 
 
@@ -81,6 +83,17 @@ def bodies_of(crate):
     """The text of each function of a crate, by its path below the crate."""
     files = sorted(crate.glob("src/**/*.rt"))
     return {path: body for it in files for path, body in bodies_in(it.relative_to(crate), it.read_text()).items()}
+
+
+def in_cycles(crate):
+    """The functions of a crate that are proved together with others, by their paths below the crate."""
+    found = set()
+    for it in sorted(crate.glob("src/**/*.rt")):
+        text = it.read_text()
+        heads = [FUNCTION.search(text, at.end()) for at in CYCLE.finditer(text)]
+        names = [function_at(text, head.end()) for head in heads if head]
+        found.update(path_of(it.relative_to(crate), name) for name in names if name)
+    return found
 
 
 def pairs_of(edit):

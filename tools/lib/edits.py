@@ -62,9 +62,10 @@ def words_of(functions):
 
 
 def put_holes(crate, functions, room):
-    """Gives each other function of a copy of the crate a hole for its proof, but one whose proof others name."""
+    """Gives each other function of a copy of the crate a hole for its proof, but one whose proof others name, and those
+    that are proved together."""
     proofs = "".join(it.read_text() for it in room.glob("proofs/**/*.antt"))
-    for name in {*edited.bodies_of(room)} - {*functions}:
+    for name in {*edited.bodies_of(room)} - {*functions} - edited.in_cycles(room):
         path, folder = name.replace("::", "."), room / "proofs" / name.replace("::", "/")
         if any(f"Rattle.{crate}.proofs.{path}.{it}" in proofs for it in PROOF):
             continue
