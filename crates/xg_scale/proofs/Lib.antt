@@ -1,6 +1,5 @@
 pub mod FoundLemmas
 pub mod FractionParts
-pub mod KeptFractions
 pub mod GameLemmas
 pub mod SetLemmas
 pub mod JudgeLemmas

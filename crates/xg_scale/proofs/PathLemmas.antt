@@ -84,13 +84,13 @@ module _ (game : GameFile) (lowest : AreFractions (tables_of game)) (whole : IsW
     sum : expected.sum ≡ known_sum tables (take n all)
     unit : expected.unit ≡ unit_so_far tables (take n all)
     limit : expected.unit ≤ most
-    fractions : expected.fractions ≡ expected_at tables (take n all)
+    fractions : expected.fractions.items ≡ expected_at tables (take n all)
     range : IsRangeOf (payoffs_at tables (take n all)) expected.range
 
   record GoesOn (n : ℕ) (innermost : NodeOnPath) (outer : List NodeOnPath) (walk : PathWalk) : Type 0 where
     passed : HasPassed n walk.expected
-    innermost_is : walk.innermost ≡ innermost
-    outer_is : walk.outer ≡ outer
+    innermost_is : walk.path.innermost ≡ innermost
+    outer_is : walk.path.outer ≡ outer
 
   abbrev OrRefused : Option Refused → Type 0 → Type 0
   OrRefused = OrStopped (RefusesBy found)
@@ -235,7 +235,7 @@ module _ (game : GameFile) (lowest : AreFractions (tables_of game)) (whole : IsW
 
       may_come_next : MayComeNext walk x
       may_come_next = record {
-        action = subst (λ g. MayCome g walk.innermost) (sym same) (subst (MayCome game) (sym on.innermost_is) may_come);
+        action = subst (λ g. MayCome g walk.path.innermost) (sym same) (subst (MayCome game) (sym on.innermost_is) may_come);
         outcome = subst (λ (g : GameFile). x.outcome ≤ length g.outcomes) (sym same) (goes_with game whole n x read).outcome;
         from_one = omega (arith, on.passed.unit, unit_from_one tables lowest (take n all));
         limit = on.passed.limit;
@@ -283,7 +283,7 @@ module _ (game : GameFile) (lowest : AreFractions (tables_of game)) (whole : IsW
         → GoesOn m inner (around place ∷ outer) old → HasLeft old new
         → GoesOn m (around (place_beside place x beside)) outer new
     goes_back m inner outer old new on left =
-        let back = subst (λ around. GoesBackTo around new.innermost new.outer) on.outer_is left.back in
+        let back = subst (λ around. GoesBackTo around new.path.innermost new.path.outer) on.outer_is left.back in
         record { passed = subst (HasPassed m) (sym left.expected) on.passed; innermost_is = back.0; outer_is = back.1 }
 
     may_leave_first : (m : ℕ) (inner : NodeOnPath) (outer : List NodeOnPath) (visitor : PathVisitor)

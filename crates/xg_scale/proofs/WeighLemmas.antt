@@ -78,7 +78,7 @@ module _ (tables : Tables) (lowest : AreFractions tables) (tree : Forest) (game 
     count = ap length h.leaves_are ∙ length-map (expected_at tables before) (weight_of unit)
 
     -- there is a fraction for the leaf
-    pub fraction_there : is_leaf_kind x.kind ≡ true → length w.leaves.items < length found.fractions
+    pub fraction_there : is_leaf_kind x.kind ≡ true → length w.leaves.items < length found.fractions.items
     fraction_there leaf =
         omega (
           arith,
@@ -90,7 +90,7 @@ module _ (tables : Tables) (lowest : AreFractions tables) (tree : Forest) (game 
 
     -- and it is what the leaf is expected to pay
     pub fraction_is : is_leaf_kind x.kind ≡ true → (f d : Fraction)
-        → get_or found.fractions (length w.leaves.items) d ≡ f → expected tables v ≡ f
+        → get_or found.fractions.items (length w.leaves.items) d ≡ f → expected tables v ≡ f
     fraction_is leaf f d at =
         sym (get_or-append_seam (expected_at tables before) (expected tables v) (expected_at tables (drop (k + 1) (visits tree))) d)
         ∙ (λ i. get_or (sym (are.fractions ∙ all_split leaf) i) (sym count i) d) ∙ at

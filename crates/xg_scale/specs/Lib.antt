@@ -1,6 +1,5 @@
 pub mod FaultOfFile
 pub mod Chance
-pub mod Fractions
 pub mod Leaf
 pub mod OnPath
 pub mod Outer

@@ -40,3 +40,13 @@ HasNodeAround (around ∷ further) = around.action + 1 < 2 ^ 32
 abbrev pub GoesBackTo : List NodeOnPath → NodeOnPath → List NodeOnPath → Type 0
 GoesBackTo [] innermost outer = ⊥
 GoesBackTo (around ∷ further) innermost outer = (innermost ≡ at_action around (around.action + 1)) × (outer ≡ further)
+
+-- the node that a walk stands at, and those around it
+pub record PathNodes : Type 0 where
+  pub innermost : NodeOnPath
+  pub outer : List NodeOnPath
+
+-- of a leaf that is kept apart, a branch and the nodes around the branch
+abbrev pub nodes_with_leaf : Option NodeOnPath → NodeOnPath → List NodeOnPath → PathNodes
+nodes_with_leaf None branch outer = record { innermost = branch; outer = outer }
+nodes_with_leaf (Some leaf) branch outer = record { innermost = leaf; outer = branch ∷ outer }

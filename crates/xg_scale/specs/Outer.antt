@@ -1,5 +1,5 @@
--- The nodes around the innermost of a path, from their steps and their numbers.
-use Rattle.std.specs.Prelude.{if◌then◌else◌, List, [], ◌∷◌, Option, Some, None}
+-- The nodes around another one of a path, from their steps and their numbers.
+use Rattle.std.specs.Prelude.{if◌then◌else◌, List, [], ◌∷◌}
 use Rattle.xg_scale.specs.declared.outer.StepOnPath.{StepOnPath}
 use Rattle.xg_scale.specs.declared.path.NodeOnPath.{NodeOnPath}
 use Rattle.xg_scale.specs.declared.path.PathNumbers.{PathNumbers}
@@ -24,8 +24,3 @@ nodes_around (step ∷ steps) numbers further =
     node_of_step step numbers
     ∷ (if step.is_new then nodes_around steps (numbers_after numbers further) (others_after further) else nodes_around
     steps numbers further)
-
--- with the nearest one, if it is kept apart
-abbrev pub from_nearest : Option NodeOnPath → List NodeOnPath → List NodeOnPath
-from_nearest None others = others
-from_nearest (Some nearest) others = nearest ∷ others

@@ -71,14 +71,14 @@ MayCome game parent = (set : ℕ) → parent.chance_set ≡ Some set →
 
 -- the node may be the next child of the innermost
 pub record MayComeNext (walk : PathWalk) (node : Node) : Type 0 where
-  pub action : MayCome walk.game.now walk.innermost
+  pub action : MayCome walk.game.now walk.path.innermost
   pub outcome : node.outcome ≤ length walk.game.now.outcomes
   pub from_one : 1 ≤ walk.expected.unit
   pub limit : walk.expected.unit ≤ most
 
 -- the numbers of its path
 abbrev pub numbers_at_next : PathWalk → Node → PathNumbers
-numbers_at_next walk node = numbers_below (tables_of walk.game.now) walk.innermost node
+numbers_at_next walk node = numbers_below (tables_of walk.game.now) walk.path.innermost node
 
 -- what is wrong at it, under its number
 abbrev pub next_fault : PathWalk → ℕ → Node → Option GameFault
@@ -92,16 +92,16 @@ pub record HasEntered (old : PathWalk) (k : ℕ) (node : Node) (new : PathWalk) 
   pub sum : new.expected.sum ≡ known_with node old.expected.sum (numbers_at_next old node)
   pub unit : new.expected.unit ≡ unit_with node old.expected.sum old.expected.unit (numbers_at_next old node)
   pub limit : new.expected.unit ≤ most
-  pub fractions : new.expected.fractions ≡ old.expected.fractions
+  pub fractions : new.expected.fractions.items ≡ old.expected.fractions.items
       ++ with_expected node (numbers_at_next old node)
   pub range : TakesIn node (numbers_at_next old node) old.expected.range new.expected.range
-  pub innermost : new.innermost ≡ entered_node node (numbers_at_next old node)
-  pub outer : new.outer ≡ old.innermost ∷ old.outer
+  pub innermost : new.path.innermost ≡ entered_node node (numbers_at_next old node)
+  pub outer : new.path.outer ≡ old.path.innermost ∷ old.path.outer
 
 -- the innermost is left
 pub record HasLeft (old new : PathWalk) : Type 0 where
   pub expected : new.expected ≡ old.expected
-  pub back : GoesBackTo old.outer new.innermost new.outer
+  pub back : GoesBackTo old.path.outer new.path.innermost new.path.outer
 
 abbrev pub MayEnter : PathVisitor → ℕ → Node → Type 0
 MayEnter visitor k node = UnlessStopped visitor.refused (MayComeNext visitor.walk node)
@@ -112,7 +112,7 @@ Enters old k node new =
     (HasEntered old.walk k node new.walk)
 
 abbrev pub MayLeave : PathVisitor → ℕ → Type 0
-MayLeave visitor k = UnlessStopped visitor.refused (HasNodeAround visitor.walk.outer)
+MayLeave visitor k = UnlessStopped visitor.refused (HasNodeAround visitor.walk.path.outer)
 
 abbrev pub Leaves : PathVisitor → ℕ → PathVisitor → Type 0
 Leaves old k new = (new.walk.game.now ≡ old.walk.game.now)
@@ -122,11 +122,11 @@ Leaves old k new = (new.walk.game.now ≡ old.walk.game.now)
 pub record IsBefore (game : GameFile) (visitor : PathVisitor) : Type 0 where
   pub going : visitor.refused ≡ None
   pub game_is : visitor.walk.game.now ≡ game
-  pub innermost : visitor.walk.innermost ≡ empty_path
-  pub outer : visitor.walk.outer ≡ []
+  pub innermost : visitor.walk.path.innermost ≡ empty_path
+  pub outer : visitor.walk.path.outer ≡ []
   pub sum : visitor.walk.expected.sum ≡ None
   pub unit : visitor.walk.expected.unit ≡ 1
-  pub fractions : visitor.walk.expected.fractions ≡ []
+  pub fractions : visitor.walk.expected.fractions.items ≡ []
   pub range : visitor.walk.expected.range ≡ None
 
 -- no node has a fault, and this is what all leaves are expected to pay, with their sum, their unit and their range
@@ -135,5 +135,5 @@ pub record IsExpectedOf (tables : Tables) (tree : Forest) (found : Expected) : T
   pub sum : unwrap_or found.sum zero_fraction ≡ game_sum tables tree
   pub unit : found.unit ≡ game_unit tables tree
   pub limit : found.unit ≤ most
-  pub fractions : found.fractions ≡ all_expected tables tree
+  pub fractions : found.fractions.items ≡ all_expected tables tree
   pub range : IsRangeOf (leaf_payoffs tables tree) found.range

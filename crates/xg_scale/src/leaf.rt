@@ -2,17 +2,16 @@
 ghost use Rattle.std.specs.Prelude.{◌≡◌, ◌≤◌, ◌%◌, ◌↔◌, ◌++◌, None, neg_ℤ, pos, IfErr, IfOk, IsTrue, OkIff, OnOk};
 ghost use Rattle.def_fraction.specs.Divisors.{lcm};
 ghost use Rattle.def_fraction.specs.Fraction.{fits, most, product_of, sum_of};
-ghost use Rattle.def_game_scale.specs.Faults as faults;
 ghost use Rattle.xg_scale.specs.FaultOfFile.{IsFaultOf, RefusesBy};
 ghost use Rattle.xg_scale.specs.Leaf.{TakesIn, judged_leaf, judged_node, known_with, leaf_unit, sum_from_first};
 ghost use Rattle.xg_scale.specs.Leaf.{unit_with, with_expected};
 
-use crate::fractions::Fractions;
-use crate::parts::{denominator, known};
+use crate::parts::{denominator, is_same, known};
 use crate::path::PathNumbers;
+use crate::products::Products;
 use crate::range::{PayoffRange, range_with};
 use std::alloc::Global;
-use xg_frac::{Frac, OverLimit, add, lcm, mul, zero};
+use xg_frac::{Frac, OverLimit, add, lcm, zero};
 use xg_game::{FileFault, Refused};
 use xg_tree::{Node, is_leaf};
 
@@ -20,9 +19,10 @@ use xg_tree::{Node, is_leaf};
 /// payoff at each; the unit that makes all of this whole; and the range of player one's payoffs.
 #[derive(Drop)]
 pub(crate) struct Expected {
+    pub(crate) products: Products,
     pub(crate) sum: Option<Frac>,
     pub(crate) unit: u64,
-    pub(crate) fractions: Fractions,
+    pub(crate) fractions: Vec<Frac>,
     pub(crate) range: Option<PayoffRange>,
 }
 
@@ -37,14 +37,14 @@ impl Expected {
         ensures unit { OnOk result (self.new.unit ≡ unit_with node self.old.sum self.old.unit numbers.now) }
         ensures limit { OnOk result (self.new.unit ≤ most) }
         ensures fractions { OnOk result
-            (self.new.fractions ≡ self.old.fractions ++ with_expected node numbers.now) }
+            (self.new.fractions.items ≡ self.old.fractions.items ++ with_expected node numbers.now) }
         ensures range { OnOk result (TakesIn node numbers.now self.old.range self.new.range) }
         ensures err { IfErr result (RefusesBy (judged_node k node self.old.sum self.old.unit numbers.now)) }
     {
         if !is_leaf(node) {
             return Ok(());
         }
-        let leaf = judge_leaf(k, self.sum, self.unit, numbers)?;
+        let leaf = judge_leaf(k, &mut self.products, self.sum, self.unit, numbers)?;
         let Ok(()) = self.fractions.push(leaf.expected) else {
             return Err(Refused::NoMemory);
         };
@@ -67,6 +67,7 @@ struct LeafNumbers {
 #[inline(always)]
 fn judge_leaf(
     k: u32,
+    products: &mut Products,
     known: Option<Frac>,
     so_far: u64,
     numbers: &PathNumbers,
@@ -87,7 +88,7 @@ fn judge_leaf(
     if !is_same(paid, sum) {
         return Err(FileFault::NotConstantSum { node: k });
     }
-    let Ok(expected) = reach_times(numbers.reach, numbers.one) else {
+    let Ok(expected) = reach_times(products, numbers.reach, numbers.one) else {
         return Err(FileFault::Scale { node: k });
     };
     let Ok(unit) = unit_with_leaf(sum, expected, so_far) else {
@@ -102,14 +103,14 @@ fn judge_leaf(
 
 /// What a leaf is expected to pay. Where chance doesn't move, each leaf has the reach 1.
 #[inline(always)]
-fn reach_times(reach: Frac, payoff: Frac) -> Result<Frac, OverLimit>
+fn reach_times(products: &mut Products, reach: Frac, payoff: Frac) -> Result<Frac, OverLimit>
     ensures { OkIff result (IsTrue (fits (product_of reach payoff))) (product_of reach payoff) }
 {
     let payoff = known(payoff);
     if is_number_one(reach) {
         return Ok(payoff);
     }
-    mul(reach, payoff)
+    products.product(reach, payoff)
 }
 
 /// Whether both parts are 1.
@@ -171,10 +172,4 @@ fn are_opposite(a: Frac, b: Frac) -> bool
     ensures { IsTrue result ↔ (a.num ≡ neg_ℤ b.num) × (a.den ≡ b.den) }
 {
     a.num() == -b.num() && a.den() == b.den()
-}
-
-fn is_same(a: Frac, b: Frac) -> bool
-    ensures { result ≡ faults.is_same a b }
-{
-    a.num() == b.num() && a.den() == b.den()
 }

@@ -2,13 +2,14 @@
 //! A game in whole numbers: the unit by which its payoffs are multiplied, the weights of its leaves and their mass.
 
 mod chance;
-mod fractions;
 mod leaf;
 mod nodes;
 mod outer;
 mod parts;
 mod path;
+mod products;
 mod range;
+mod walk_path;
 mod weighing;
 mod weights;
 

@@ -7,18 +7,18 @@ ghost use Rattle.def_game_numbers.specs.Numbers.{tables_of};
 ghost use Rattle.def_game_paths.specs.Paths.{visits};
 ghost use Rattle.def_game_scale.specs.Tables.{AreFractions, payoffs_of};
 ghost use Rattle.xg_scale.specs.FaultOfFile.{RefusesBy};
-ghost use Rattle.xg_scale.specs.OnPath.{HasNodeAround, entered_node};
+ghost use Rattle.xg_scale.specs.OnPath.{HasNodeAround};
 ghost use Rattle.xg_scale.specs.Walked.{HasEntered, HasLeft, IsBefore, IsExpectedOf, MayCome, MayComeNext, all_fit};
 ghost use Rattle.xg_scale.specs.Walked.{next_fault, numbers_below, paid_to, reach_below};
 
-use crate::fractions::Fractions;
 use crate::leaf::Expected;
-use crate::outer::OuterPath;
 use crate::parts::known;
-use crate::path::{NodeOnPath, PathNumbers, after_child, empty_path};
+use crate::path::{NodeOnPath, PathNumbers};
+use crate::products::Products;
+use crate::walk_path::WalkPath;
 use std::alloc::{AllocError, Global};
 use xg_frac::{Frac, OverLimit, add, mul};
-use xg_game::{FileFault, Game, Kind, Player, Refused};
+use xg_game::{FileFault, Game, Player, Refused};
 use xg_tree::{Node, Visitor};
 
 /// What each leaf is expected to pay, what it pays both players together, the unit, and the range of the payoffs.
@@ -48,12 +48,13 @@ impl<'a> PathVisitor<'a> {
     fn new(alloc: Global, game: &'a Game) -> Result<PathVisitor<'a>, AllocError>
         ensures { IfOk result (IsBefore game.now) }
     {
-        let fractions = Fractions::with_capacity(alloc, game.tree().leaves() as usize)?;
+        let products = Products::new(alloc)?;
+        let fractions = Vec::with_capacity(alloc, game.tree().leaves() as usize)?;
         let walk = PathWalk {
             game,
-            innermost: empty_path(),
-            outer: OuterPath::new(alloc),
+            path: WalkPath::new(alloc),
             expected: Expected {
+                products,
                 sum: None,
                 unit: 1,
                 fractions,
@@ -97,8 +98,7 @@ impl<'a> Visitor for PathVisitor<'a> {
 #[derive(Drop)]
 struct PathWalk<'a> {
     game: &'a Game,
-    innermost: NodeOnPath,
-    outer: OuterPath,
+    path: WalkPath,
     expected: Expected,
 }
 
@@ -111,42 +111,22 @@ impl<'a> PathWalk<'a> {
         ensures ok { OnOk result (HasEntered self.old k node self.new) }
         ensures err { IfErr result (RefusesBy (next_fault self.old k node)) }
     {
-        let Ok(numbers) = numbers_at(self.game, &self.innermost, node) else {
+        let Ok(numbers) = numbers_at(self.game, self.path.innermost(), node) else {
             return Err(Refused::File(FileFault::Scale { node: k }));
         };
         self.expected.judge(k, node, &numbers)?;
-        self.outer.push(self.innermost)?;
-        self.innermost = before_children(node, numbers);
+        self.path.enter(node, numbers)?;
         Ok(())
     }
 
     /// Goes back to the node around the innermost, at its next action.
     #[inline(always)]
     fn leave(&mut self)
-        requires { HasNodeAround self.old.outer }
+        requires { HasNodeAround self.old.path.outer }
         ensures game { self.new.game.now ≡ self.old.game.now }
         ensures left { HasLeft self.old self.new }
     {
-        let Some(around) = self.outer.pop() else {
-            unreachable!()
-        };
-        self.innermost = after_child(around);
-    }
-}
-
-/// The node before its first child.
-#[inline(always)]
-fn before_children(node: Node, numbers: PathNumbers) -> NodeOnPath
-    ensures { result ≡ entered_node node numbers }
-{
-    let chance_set = match node.kind {
-        Kind::Chance => Some(node.set),
-        _ => None,
-    };
-    NodeOnPath {
-        chance_set,
-        action: 1,
-        numbers,
+        self.path.leave();
     }
 }
 

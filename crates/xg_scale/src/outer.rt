@@ -1,10 +1,10 @@
 //! The nodes around the one that a walk stands at.
 ghost use Rattle.std.specs.Prelude.{◌≡◌, [], ◌∷◌, IfSome, IsNone, IsTrue, OnOk};
 
+use crate::parts::is_same;
 use crate::path::{NodeOnPath, PathNumbers, empty_path};
 use std::alloc::{AllocError, Global};
 use std::marker::Model;
-use xg_frac::Frac;
 use xg_tree::Ancestors;
 
 /// A node on the path without its numbers, and whether these differ from those of the node around it.
@@ -15,76 +15,17 @@ pub(crate) struct StepOnPath {
     is_new: bool,
 }
 
-/// The nodes on the path that are around the innermost.
+/// The nodes on the path that are around another one. Those in a row with the same numbers have them once, since most
+/// games pay at leaves alone and a path may be as long as its tree.
 #[derive(Drop)]
 pub(crate) struct OuterPath {
-    // The one right around the innermost, until another comes below. Most nodes are leaves, which are left at once.
-    nearest: Option<NodeOnPath>,
-    others: FartherPath,
-}
-
-impl Model for OuterPath {
-    ghost use Rattle.std.specs.Prelude.{List};
-    ghost use Rattle.xg_scale.specs.declared.path.NodeOnPath.{NodeOnPath};
-    ghost use Rattle.xg_scale.specs.Outer.{from_nearest};
-
-    ghost Value = { List NodeOnPath };
-
-    ghost view = { λ p. from_nearest p.nearest p.others };
-}
-
-impl OuterPath {
-    /// No node.
-    pub(crate) fn new(alloc: Global) -> OuterPath
-        ensures { result ≡ [] }
-    {
-        OuterPath {
-            nearest: None,
-            others: FartherPath {
-                steps: Ancestors::new(alloc),
-                numbers: empty_path().numbers,
-                further: Ancestors::new(alloc),
-            },
-        }
-    }
-
-    /// Goes down to a child of a node.
-    #[inline(always)]
-    pub(crate) fn push(&mut self, node: NodeOnPath) -> Result<(), AllocError>
-        ensures { OnOk result (self.new ≡ node ∷ self.old) }
-    {
-        if let Some(nearest) = self.nearest {
-            self.others.push(nearest)?;
-        }
-        self.nearest = Some(node);
-        Ok(())
-    }
-
-    /// Goes up to the node around, and answers it.
-    #[inline(always)]
-    pub(crate) fn pop(&mut self) -> Option<NodeOnPath>
-        ensures some { IfSome result (λ around. self.old ≡ around ∷ self.new) }
-        ensures none { IsNone result → self.old ≡ [] }
-    {
-        if let Some(nearest) = self.nearest {
-            self.nearest = None;
-            return Some(nearest);
-        }
-        self.others.pop()
-    }
-}
-
-/// Nodes on the path. Those in a row with the same numbers have them once, since most games pay at leaves alone and a
-/// path may be as long as its tree.
-#[derive(Drop)]
-struct FartherPath {
     steps: Ancestors<StepOnPath>,
     // Those of the last node, and behind them each further ones that differ.
     numbers: PathNumbers,
     further: Ancestors<PathNumbers>,
 }
 
-impl Model for FartherPath {
+impl Model for OuterPath {
     ghost use Rattle.std.specs.Prelude.{List};
     ghost use Rattle.xg_scale.specs.declared.path.NodeOnPath.{NodeOnPath};
     ghost use Rattle.xg_scale.specs.Outer.{nodes_around};
@@ -94,10 +35,21 @@ impl Model for FartherPath {
     ghost view = { λ p. nodes_around p.steps p.numbers p.further };
 }
 
-impl FartherPath {
-    /// Puts a node before them.
+impl OuterPath {
+    /// No node.
+    pub(crate) fn new(alloc: Global) -> OuterPath
+        ensures { result ≡ [] }
+    {
+        OuterPath {
+            steps: Ancestors::new(alloc),
+            numbers: empty_path().numbers,
+            further: Ancestors::new(alloc),
+        }
+    }
+
+    /// Goes down to a child of a node.
     #[inline(always)]
-    fn push(&mut self, node: NodeOnPath) -> Result<(), AllocError>
+    pub(crate) fn push(&mut self, node: NodeOnPath) -> Result<(), AllocError>
         ensures { OnOk result (self.new ≡ node ∷ self.old) }
     {
         let is_new = !are_same(node.numbers, self.numbers);
@@ -112,9 +64,9 @@ impl FartherPath {
         })
     }
 
-    /// Takes the first of them.
+    /// Goes up to the node around, and answers it.
     #[inline(always)]
-    fn pop(&mut self) -> Option<NodeOnPath>
+    pub(crate) fn pop(&mut self) -> Option<NodeOnPath>
         ensures some { IfSome result (λ around. self.old ≡ around ∷ self.new) }
         ensures none { IsNone result → self.old ≡ [] }
     {
@@ -138,11 +90,4 @@ fn are_same(a: PathNumbers, b: PathNumbers) -> bool
     ensures { IsTrue result → a ≡ b }
 {
     is_same(a.reach, b.reach) && is_same(a.one, b.one) && is_same(a.two, b.two)
-}
-
-#[inline(always)]
-fn is_same(a: Frac, b: Frac) -> bool
-    ensures { IsTrue result → a ≡ b }
-{
-    a.num() == b.num() && a.den() == b.den()
 }

@@ -43,3 +43,12 @@ pub(crate) fn denominator(f: Frac) -> u64
 {
     f.den() as u64
 }
+
+/// Whether both have the same parts, as the same fractions have.
+#[inline(always)]
+pub(crate) fn is_same(a: Frac, b: Frac) -> bool
+    ensures exact { result ≡ faults.is_same a b }
+    ensures same { IsTrue result → a ≡ b }
+{
+    a.num() == b.num() && a.den() == b.den()
+}

@@ -1,7 +1,7 @@
 //! The weights of a game's leaves.
 ghost use Rattle.std.specs.Prelude.{◌≡◌, ◌≤◌, ◌<◌, ◌+◌, ◌^◌, [], None, map, nat_le, sum, unsigned_abs, unwrap_or};
 ghost use Rattle.std.specs.Prelude.{IfErr, IfOk, OnErr, OnOk};
-ghost use Rattle.def_fraction.specs.Fraction.{most, over, signed, zero_fraction};
+ghost use Rattle.def_fraction.specs.Fraction.{most, signed, zero_fraction};
 ghost use Rattle.def_game_scale.specs.Faults.{found_by, mass_fault, whole_sum_fault};
 ghost use Rattle.def_game_numbers.specs.Numbers.{tables_of, weights_of_game};
 ghost use Rattle.def_game_paths.specs.Paths.{visits};
@@ -13,9 +13,8 @@ ghost use Rattle.xg_scale.specs.FaultOfFile.{IsFaultOf, RefusesBy};
 ghost use Rattle.xg_scale.specs.Walked.{IsExpectedOf};
 ghost use Rattle.xg_scale.specs.Weighed.{HasWeighed, IsLeafWeighed};
 
-use crate::fractions::Parts;
 use crate::leaf::Expected;
-use crate::parts::{denominator, size};
+use crate::parts::{denominator, is_negative, size};
 use def_sums::MOST_MASS;
 use std::alloc::Global;
 use std::marker::Model;
@@ -109,7 +108,7 @@ impl Weighed {
         if !is_leaf(game.tree().node(k + 1)) {
             return Ok(());
         }
-        let fraction = expected.fractions.parts(self.leaves.len());
+        let fraction = expected.fractions[self.leaves.len()];
         let Ok(leaf) = weigh_leaf(self.mass, expected.unit, fraction) else {
             return Err(Refused::File(FileFault::Scale { node: k + 1 }));
         };
@@ -194,21 +193,20 @@ struct WeighedLeaf {
     mass: u64,
 }
 
-fn weigh_leaf(so_far: u64, times: u64, fraction: Parts) -> Result<WeighedLeaf, OverLimit>
-    requires from_one { 1 ≤ fraction.den }
+fn weigh_leaf(so_far: u64, times: u64, fraction: Frac) -> Result<WeighedLeaf, OverLimit>
     requires mass { so_far ≤ most }
     requires limit { times ≤ most }
-    ensures ok { IfOk result (IsLeafWeighed so_far (weight_of times (over fraction.num fraction.den))) }
-    ensures limit { OnOk result (so_far + unsigned_abs (weight_of times (over fraction.num fraction.den)) ≤ most) }
-    ensures err { OnErr result (most < so_far + unsigned_abs (weight_of times (over fraction.num fraction.den))) }
+    ensures ok { IfOk result (IsLeafWeighed so_far (weight_of times fraction)) }
+    ensures limit { OnOk result (so_far + unsigned_abs (weight_of times fraction) ≤ most) }
+    ensures err { OnErr result (most < so_far + unsigned_abs (weight_of times fraction)) }
 {
-    let size = fraction.num.unsigned_abs() as u128 * (times / fraction.den) as u128;
+    let size = size(fraction) as u128 * (times / denominator(fraction)) as u128;
     let mass = so_far as u128 + size;
     if mass > MOST_MASS as u128 {
         return Err(OverLimit);
     }
     Ok(WeighedLeaf {
-        weight: with_sign(fraction.num < 0, size as u64),
+        weight: with_sign(is_negative(fraction), size as u64),
         mass: mass as u64,
     })
 }
